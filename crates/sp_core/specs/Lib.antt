@@ -3,3 +3,4 @@ pub mod Effects
 pub mod Values
 pub mod Machine
 pub mod Security
+pub mod States

@@ -3,6 +3,8 @@
 
 mod expr;
 mod function;
+mod state;
 
 pub use expr::Expr;
 pub use function::{Answer, Assertion, Effect, Formal, Function, Kind, Param, TypeInfo};
+pub use state::State;

@@ -1,6 +1,6 @@
 -- What finding, replacing and adding an entry do to the map of entries.
 use Rattle.std.proofs.Common.{◌≡◌, refl, sym, ◌∙◌, ap, subst, arith, ℕ, suc, ◌+◌, ◌<◌, Bool, true, false, ◌==◌, ◌&&◌, cond, List, [], ◌∷◌, ◌++◌, set, length, Option, Some, None, nat_lt, inl, inr}
-use Rattle.std.specs.Prelude.{if◌then◌else◌, position, is_some, slice_get, slice_index_or, IsSome}
+use Rattle.std.specs.Prelude.{if◌then◌else◌, position, is_some, slice_get, slice_index_or}
 use Rattle.std.proofs.lemmas.Option.{slice_get_read}
 use Rattle.std.specs.Bool.{Decides}
 use Rattle.std.proofs.lemmas.Bool.Decides.{Decides-eqb}

@@ -4,3 +4,8 @@ pub mod Values
 pub mod Machine
 pub mod Security
 pub mod States
+pub mod Typing
+pub mod Measures
+pub mod Parts
+pub mod WellFormed
+pub mod Instances

@@ -1,7 +1,6 @@
 -- The entries of a state in memory, as the finite map that they are, for the calls of `State` and those that write to one.
-use Rattle.std.specs.Prelude.{◌≡◌, ℕ, ◌<◌, ◌⊎◌, Bool, ◌==◌, ◌&&◌, if◌then◌else◌, List, [], ◌∷◌, length, Option, Some, None, IsSome}
+use Rattle.std.specs.Prelude.{◌≡◌, ℕ, ◌<◌, ◌⊎◌, Bool, ◌==◌, ◌&&◌, if◌then◌else◌, List, [], ◌∷◌, length, Some, None, IsSome}
 use Rattle.sp_values.specs.declared.value.Value.{Value}
-use Rattle.sp_values.specs.declared.place.Place.{Place}
 use Rattle.sp_values.specs.Identity.{same_values}
 use Rattle.sp_core.specs.declared.state.Entry.{Entry}
 use Rattle.sp_core.specs.Values.{Store}

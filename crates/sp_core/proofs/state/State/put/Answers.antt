@@ -1,8 +1,7 @@
 use Rattle.std.proofs.Common.{◌-◌, refl, sym, ◌∙◌, ap, subst, arith}
 use Rattle.std.specs.Prelude.{vec_len, vec_capacity}
-use Rattle.sp_values.specs.declared.place.Place.{Place}
 use Rattle.sp_core.specs.States.{HasRoom, Held}
-use Rattle.sp_core.proofs.StateLemmas.{IsPut, absent, at-found, none-found, put-absent, put-found, room-left}
+use Rattle.sp_core.proofs.StateLemmas.{absent, at-found, none-found, put-absent, put-found, room-left}
 use Rattle.sp_core.proofs.state.State.put.Goals as goal
 
 pub invariant_of-self : goal.invariant_of-self

@@ -104,13 +104,13 @@ pub record IsInitial (sg : Signature) (xs : List Ty) (t : Ty) (e : Expr) : Type 
   pub expression : IsExpression sg xs (tree e) t
   pub reads_nothing : LooksAt Nothing Nothing (tree e)
 
--- function h isn't derived, or it stands before function g
+-- function h, of this kind, isn't derived, or it stands before function g
+abbrev pub IsEarlierAs : ℕ → ℕ → Kind → Type 0
+IsEarlierAs g h (kind.Derived t e) = h < g
+IsEarlierAs g h k = Unit {0}
+
 abbrev pub IsEarlier : List Function → ℕ → ℕ → Type 0
-IsEarlier fs g h = (f : Function) → slice_get fs h ≡ Some f → by f.kind
-  where
-    by : Kind → Type 0
-    by (kind.Derived t e) = h < g
-    by k = Unit {0}
+IsEarlier fs g h = (f : Function) → slice_get fs h ≡ Some f → IsEarlierAs g h f.kind
 
 -- the derivation of function g: it looks at primitive functions and at earlier derived ones, and is at most sixteen deep
 pub record IsDerivation (sg : Signature) (xs : List Ty) (g : ℕ) (t : Ty) (e : Expr) : Type 0 where

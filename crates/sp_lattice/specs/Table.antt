@@ -1,5 +1,5 @@
 -- Relations and bounds as flat tables, a row for each level, for the calls inside this crate that fill them.
-use Rattle.std.specs.Prelude.{◌≡◌, ℕ, ◌+◌, ◌*◌, ◌<◌, Bool, false, List, IsTrue, slice_index, slice_index_or, length}
+use Rattle.std.specs.Prelude.{◌≡◌, ℕ, ◌+◌, ◌*◌, ◌<◌, ◌&&◌, Bool, false, List, Option, Some, None, IsTrue, slice_index, slice_index_or, length}
 use Rattle.sp_lattice.specs.Bounds.{IsLeastUpper}
 use Rattle.sp_lattice.specs.Refusal.{IsFirstPair, HasNoLub}
 use Rattle.sp_lattice.specs.declared.table.BoundFault.{BoundFault}
@@ -15,6 +15,11 @@ pub record IsRelated (count : ℕ) (table : List Bool) (x y : ℕ) : Type 0 wher
   pub low : x < count
   pub high : y < count
   pub there : IsTrue (entry count table x y)
+
+-- whether z is above x and y, and below the level found so far
+abbrev pub is_lower_upper : ℕ → List Bool → ℕ → ℕ → ℕ → Option ℕ → Bool
+is_lower_upper count table x y z None = entry count table x z && entry count table y z
+is_lower_upper count table x y z (Some bound) = entry count table x z && (entry count table y z && entry count table z bound)
 
 -- the bounds have for each two levels their least upper bound
 pub record AreLubs (count : ℕ) (table : List Bool) (bounds : List ℕ) : Type 0 where

@@ -1,11 +1,12 @@
 //! Tables with a row and a column for each level: relations as a list of tests, bounds as a list of levels.
 
-ghost use Rattle.std.specs.Prelude.{◌≡◌, ◌==◌, ℕ, ◌+◌, ◌*◌, ◌<◌, ◌≤◌, ◌&&◌, ◌||◌, ◌↔◌, ◌⊎◌, Some, true, IfOk, IfErr, IfSome, IsNone, IsTrue, MatchOption, MatchResult, length};
+ghost use Rattle.std.specs.Prelude.{◌≡◌, ◌==◌, ℕ, ◌+◌, ◌*◌, ◌<◌, ◌≤◌, ◌&&◌, ◌||◌, ◌↔◌, ◌⊎◌, Some, true, false, IfOk, IfErr, IfSome, IsNone, IsTrue, MatchOption, MatchResult, length};
 ghost use Rattle.std.specs.List.{Contains};
+ghost use Rattle.std.specs.Option.{ForSome};
 ghost use Rattle.sp_lattice.specs.Bounds.{IsPartialOrder, IsLeastUpper};
 ghost use Rattle.sp_lattice.specs.Closure.{AreLevels, IsOrdered, Path};
 ghost use Rattle.sp_lattice.specs.Refusal.{IsFirstPair, IsCycle, HasNoLub};
-ghost use Rattle.sp_lattice.specs.Table.{entry, IsRelated, AreLubs, IsGreatest, IsMissing};
+ghost use Rattle.sp_lattice.specs.Table.{entry, IsRelated, AreLubs, IsGreatest, IsMissing, is_lower_upper};
 
 use sp_text::Memory;
 use std::alloc::Global;
@@ -37,10 +38,21 @@ pub fn closure(alloc: Global, count: u16, pairs: &[(u32, u32)]) -> Result<Vec<bo
 {
     let size = count as usize * count as usize;
     let mut table = vec![in alloc; false; size].map_err(|_| Memory)?;
-    relate_same(&mut table, count);
-    relate_pairs(&mut table, count, pairs);
-    close(&mut table, count);
+    fill(&mut table, count, pairs);
     Ok(table)
+}
+
+/// Relates in an empty table what the closure of the pairs does.
+fn fill(table: &mut [bool], count: u16, pairs: &[(u32, u32)])
+    requires square { length table.old ≡ count * count }
+    requires empty { (a b : ℕ) → entry count table.old a b ≡ false }
+    requires levels { AreLevels count pairs.now }
+    ensures { (x y : ℕ) → x < count → y < count
+        → (IsRelated count table.new x y ↔ IsOrdered pairs.now x y) }
+{
+    relate_same(table, count);
+    relate_pairs(table, count, pairs);
+    close(table, count);
 }
 
 /// Relates two levels.
@@ -197,25 +209,27 @@ fn lowest_upper(table: &[bool], count: u16, x: u16, y: u16) -> Option<u16>
 {
     let mut lowest = None;
     for z in 0..count {
-        if table[place(count, x, z)] && table[place(count, y, z)] && is_lower(table, count, z, lowest)
-        {
+        if is_lower_upper(table, count, x, y, z, lowest) {
             lowest = Some(z);
         }
     }
     lowest
 }
 
-/// Whether a level is below the lowest one so far, if there is one.
-fn is_lower(table: &[bool], count: u16, z: u16, lowest: Option<u16>) -> bool
+/// Whether a level is above both of two, and below the lowest such level so far.
+fn is_lower_upper(table: &[bool], count: u16, x: u16, y: u16, z: u16, lowest: Option<u16>) -> bool
     requires square { length table.now ≡ count * count }
+    requires x { x < count }
+    requires y { y < count }
     requires z { z < count }
-    requires lowest { IfSome lowest (λ bound. bound < count) }
-    ensures { MatchOption lowest (result ≡ true) (λ bound. result ≡ entry count table.now z bound) }
+    requires lowest { ForSome lowest (λ bound. bound < count) }
+    ensures { result ≡ is_lower_upper count table.now x y z lowest }
 {
-    match lowest {
+    let is_below = match lowest {
         Some(bound) => table[place(count, z, bound)],
         None => true,
-    }
+    };
+    table[place(count, x, z)] && table[place(count, y, z)] && is_below
 }
 
 /// Whether a level is below each that is above both of two.

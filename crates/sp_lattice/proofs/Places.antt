@@ -1,5 +1,7 @@
 -- Places of a flat table, as rows and columns.
-use Rattle.std.proofs.Common.{◌≡◌, ℕ, zero, suc, ◌+◌, ◌*◌, ◌/◌, ◌%◌, ◌<◌, ◌≤◌, ◌⊎◌, ⊎_elim, inl, inr, refl, sym, ap, ◌∙◌, subst, arith}
+use Rattle.std.proofs.Common.{◌≡◌, ℕ, zero, suc, ◌+◌, ◌*◌, ◌/◌, ◌%◌, ◌<◌, ◌≤◌, ◌⊎◌, ⊎_elim, inl, inr, List, [], ◌∷◌, ◌++◌, refl, sym, ap, ◌∙◌, subst, arith}
+use Rattle.std.specs.List.{Contains}
+use Rattle.std.proofs.lemmas.List.Elements.{Contains-push_cases}
 use Rattle.std.proofs.Math.Nat.{mul-le-mul_right}
 use Rattle.std.proofs.lemmas.Nat.{div-mul-add, mod-mul-add, mul-add-lt, div-add-mod', div_below, mod_below}
 use Rattle.sp_lattice.specs.Refusal.{IsEarlier, IsFirstPair}
@@ -47,3 +49,8 @@ pub none_at_places : (count : ℕ) (P : ℕ → ℕ → Type 0) → ((n : ℕ) �
     → (x y : ℕ) → x < y → y < count → P x y → ⊥
 none_at_places count P before x y less level p =
     at_place (λ a b. a < b → P a b → ⊥) count (count * count) before x y level (place_below count x y (omega arith) level) less p
+
+-- a pair more in a list, at one place more
+pub pairs_more : (pairs : List (ℕ × ℕ)) (P : ℕ → ℕ → Type 0) (x y : ℕ) → P x y → ((a b : ℕ) → Contains pairs (a, b) → P a b)
+    → (a b : ℕ) → Contains (pairs ++ (x, y) ∷ []) (a, b) → P a b
+pairs_more pairs P x y there h a b c = ⊎_elim (h a b) (λ e. subst (λ (p : ℕ × ℕ). P p.0 p.1) e there) (Contains-push_cases pairs (x, y) (a, b) c)

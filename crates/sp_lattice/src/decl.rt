@@ -1,4 +1,4 @@
-ghost use Rattle.std.specs.Prelude.{◌≡◌, ℕ, ◌*◌, ◌^◌, ◌<◌, ◌≤◌, ◌↔◌, IfOk, IfErr, IsTrue};
+ghost use Rattle.std.specs.Prelude.{◌≡◌, ℕ, ◌*◌, ◌^◌, ◌-◌, ◌<◌, ◌≤◌, ◌↔◌, min, IfOk, IfErr, IsTrue};
 ghost use Rattle.std.specs.List.{Contains};
 ghost use Rattle.sp_lattice.specs.Bounds.{IsLattice};
 ghost use Rattle.sp_lattice.specs.Closure.{AreLevels, IsOrdered};
@@ -51,13 +51,21 @@ impl LatticeDecl {
         ensures lattice { IfOk result (λ decl. IsLattice decl.count (IsOrdered decl.below.items)) }
         ensures refused { IfErr result (IsProductRefused chain categories) }
     {
-        let count = chain.saturating_mul(2u32.saturating_pow(categories));
+        let count = product_count(chain, categories);
         if count > MAX_LEVELS {
             return Err(LatticeFault::TooManyLevels(count));
         }
         let below = product_pairs(alloc, count, categories).map_err(|_| LatticeFault::Memory)?;
         Ok(LatticeDecl { count, below })
     }
+}
+
+/// How many levels the product has, or the greatest `u32` where it has more.
+fn product_count(chain: u32, categories: u32) -> u32
+    requires { 1 ≤ chain }
+    ensures { result ≡ min (chain * 2 ^ categories) (2 ^ 32 - 1) }
+{
+    chain.saturating_mul(2u32.saturating_pow(categories))
 }
 
 /// The pairs of the product's order.

@@ -1,5 +1,5 @@
 -- What a state gives at a V-function is its own equation: an entry, an initial value, or a derivation's value.
-use Rattle.std.proofs.Common.{◌≡◌, refl, sym, ap, arith, ℕ, zero, suc, ◌+◌, ◌<◌, List, length, Option, Some, None}
+use Rattle.std.proofs.Common.{◌≡◌, refl, arith, ℕ, zero, suc, ◌+◌, ◌<◌, List, length, Option, Some, None}
 use Rattle.std.specs.Prelude.{slice_get}
 use Rattle.std.proofs.lemmas.Option.{slice_get_within}
 use Rattle.sp_values.specs.declared.value.Value.{Value}
@@ -7,7 +7,7 @@ use Rattle.sp_core.specs.declared.function.Function.{Function}
 use Rattle.sp_core.specs.declared.function.Kind.{Kind}
 use Rattle.sp_core.specs.declared.function.Kind.TheVariants as kind
 use Rattle.sp_core.specs.Measures.{LooksAt, Nothing}
-use Rattle.sp_core.specs.Tree.{Tree, tree}
+use Rattle.sp_core.specs.Tree.{tree}
 use Rattle.sp_core.specs.Values.{World, Reads, Store, look, reads_by, reads_under}
 use Rattle.sp_core.specs.WellFormed.{IsEarlier, IsEarlierAs}
 use Rattle.sp_core.proofs.Agree.{value_agrees}

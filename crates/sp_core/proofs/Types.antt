@@ -23,13 +23,13 @@ use Rattle.sp_core.specs.declared.function.Param.{Param as Parameter}
 use Rattle.sp_core.specs.declared.function.TypeInfo.{TypeInfo}
 use Rattle.sp_core.specs.Instances.{Filling, IsInstance, machine_of, row_value, sizes_of, table_value, world_of}
 use Rattle.sp_core.specs.Machine.{IsState, types_of}
-use Rattle.sp_core.specs.Measures.{LookAt, LooksAt, Anything, Nothing}
+use Rattle.sp_core.specs.Measures.{LookAt, LooksAt, Anything, Nothing, rank, rank_by, rank_of}
 use Rattle.sp_core.specs.Parts.{Parts, signature}
 use Rattle.sp_core.specs.Tree.{Tree, Trees, Const, Var, Not, Two, If, Param, Look, Every, New, none, more, tree}
 use Rattle.sp_core.specs.Typing.{HasType, HaveTypes, IsTyped, declared_members, is_constant, primitive_type, read_type}
 use Rattle.sp_core.specs.Values.{Reads, Store, level_number, is_true, look, nothing, nth, reads_by, two, value_of, values_of}
 use Rattle.sp_core.specs.WellFormed.{IsEarlier, IsKind, IsWellFormed}
-use Rattle.sp_core.proofs.Looks.{AreOrdered, IsOrderedAs, look_is, rank, rank_below, rank_by, rank_of}
+use Rattle.sp_core.proofs.Looks.{AreOrdered, IsOrderedAs, look_is, rank_below}
 
 pub and_true : (a b : Bool) → (a && b) ≡ true → (a ≡ true) × (b ≡ true)
 and_true true true e = (refl, refl)

@@ -16,11 +16,24 @@ pub data Piece : Type 0 where
   number : ℕ → Piece
   symbol : Symbol → Piece
 
+-- the bytes `$`, `(`, `)` and `_`
+abbrev pub dollar_sign : ℕ
+dollar_sign = 36
+
+abbrev pub opening_parenthesis : ℕ
+opening_parenthesis = 40
+
+abbrev pub closing_parenthesis : ℕ
+closing_parenthesis = 41
+
+abbrev pub underscore : ℕ
+underscore = 95
+
 -- a letter, a digit or `_`
 abbrev pub word_byte : ℕ → Bool
-word_byte b = letter_byte b || digit_byte b || (b == 95)
+word_byte b = letter_byte b || digit_byte b || (b == underscore)
 
--- the value of decimal digits
+-- the value of decimal digits, of which `0` is the byte 48
 abbrev pub number_of : List ℕ → ℕ
 number_of digits = fold (λ n digit. 10 * n + (digit - 48)) 0 digits
 
@@ -39,21 +52,21 @@ module _ (text : List ℕ) where
   -- `$(` stands here
   pub record OpensComment (start : ℕ) : Type 0 where
     pub within : start + 2 ≤ length text
-    pub dollar : slice_index text start ≡ 36
-    pub parenthesis : slice_index text (start + 1) ≡ 40
+    pub dollar : slice_index text start ≡ dollar_sign
+    pub parenthesis : slice_index text (start + 1) ≡ opening_parenthesis
 
   -- `$(`, any bytes other than `)`, and `)`
   pub record IsComment (start end : ℕ) : Type 0 where
     pub opens : OpensComment start
     pub room : start + 3 ≤ end
     pub within : end ≤ length text
-    pub between : (k : ℕ) → start + 2 ≤ k → k + 1 < end → slice_index text k ≢ 41
-    pub closes : slice_index text (end - 1) ≡ 41
+    pub between : (k : ℕ) → start + 2 ≤ k → k + 1 < end → slice_index text k ≢ closing_parenthesis
+    pub closes : slice_index text (end - 1) ≡ closing_parenthesis
 
   -- `$(` stands here, and no `)` behind it
   pub record IsOpenComment (start : ℕ) : Type 0 where
     pub opens : OpensComment start
-    pub unclosed : (k : ℕ) → start + 2 ≤ k → k < length text → slice_index text k ≢ 41
+    pub unclosed : (k : ℕ) → start + 2 ≤ k → k < length text → slice_index text k ≢ closing_parenthesis
 
   -- this piece stands from start on and before end
   abbrev pub IsPiece : Piece → ℕ → ℕ → Type 0

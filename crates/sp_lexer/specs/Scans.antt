@@ -4,7 +4,7 @@ use Rattle.std.specs.Prelude.{◌≡◌, ◌≢◌, ℕ, ◌+◌, ◌-◌, ◌<�
 use Rattle.sp_text.specs.Classes.{letter_byte, digit_byte, space_byte}
 use Rattle.sp_text.specs.declared.token.Symbol.{Symbol}
 use Rattle.sp_lexer.specs.Spelling.{symbol_text}
-use Rattle.sp_lexer.specs.Pieces.{OpensComment}
+use Rattle.sp_lexer.specs.Pieces.{closing_parenthesis, OpensComment}
 
 module _ (text : List ℕ) where
   -- the bytes from start on and before end are of the class, and the byte at end isn't, where the text goes on
@@ -16,14 +16,14 @@ module _ (text : List ℕ) where
 
   -- no `)` stands from start on and before end
   abbrev pub NoneCloses : ℕ → ℕ → Type 0
-  NoneCloses start end = (k : ℕ) → start ≤ k → k < end → slice_index text k ≢ 41
+  NoneCloses start end = (k : ℕ) → start ≤ k → k < end → slice_index text k ≢ closing_parenthesis
 
   -- the first `)` from start on stands before end
   pub record ClosesBefore (start end : ℕ) : Type 0 where
     pub onwards : start < end
     pub within : end ≤ length text
     pub between : NoneCloses start (end - 1)
-    pub closes : slice_index text (end - 1) ≡ 41
+    pub closes : slice_index text (end - 1) ≡ closing_parenthesis
 
   -- no blank, word, number or comment begins here
   pub record IsOther (start : ℕ) : Type 0 where

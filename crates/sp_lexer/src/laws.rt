@@ -9,7 +9,8 @@ ghost use Rattle.sp_lexer.specs.Faults.{IsFirstFault};
 pub fn reading_is_unique()
     ensures division { (text : List ℕ) (ps qs : List Placed)
         → IsDivision text ps 0 (length text) → IsDivision text qs 0 (length text) → ps ≡ qs }
-    ensures tokens { (text : List ℕ) (ts us : List Token) → IsTokens text ts → IsTokens text us → ts ≡ us }
+    ensures tokens { (text : List ℕ) (ts us : List Token)
+        → IsTokens text ts → IsTokens text us → ts ≡ us }
     ensures fault { (text : List ℕ) (f g : TextFault)
         → IsFirstFault text f → IsFirstFault text g → f ≡ g }
     ensures apart { (text : List ℕ) (ts : List Token) (f : TextFault)

@@ -1,4 +1,4 @@
-//! Divides a text into tokens.
+//! Divides a text into its tokens, or says what is wrong with it and where.
 #![tactic(auto)]
 
 mod laws;

@@ -1,6 +1,6 @@
 ghost use Rattle.std.specs.Prelude.{◌≡◌, ◌<◌, ◌≤◌, ◌^◌, ◌+◌, length, slice_index, IfOk, IsTrue, MatchOption, MatchResult};
 ghost use Rattle.sp_text.specs.Classes.{digit_byte, letter_byte, space_byte};
-ghost use Rattle.sp_text.specs.declared.token.Symbol as spelled;
+ghost use Rattle.sp_text.specs.declared.token.Symbol.{Symbol};
 ghost use Rattle.sp_lexer.specs.Pieces.{OpensComment};
 ghost use Rattle.sp_lexer.specs.Scanned.{IsMalformed, IsScanned};
 ghost use Rattle.sp_lexer.specs.Scans.{IsDoubleAt, IsOther};
@@ -146,7 +146,7 @@ fn scan_symbol(text: &[u8], place: usize) -> Result<Scanned, Malformed>
 fn double_symbol_at(text: &[u8], place: usize) -> Option<Symbol>
     requires { place < length text.now }
     ensures { MatchOption result
-        ((s : spelled.Symbol) → ¬ IsDoubleAt text.now place s)
+        ((s : Symbol) → ¬ IsDoubleAt text.now place s)
         (IsDoubleAt text.now place) }
 {
     if place + 1 < text.len() {

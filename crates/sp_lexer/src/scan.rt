@@ -6,7 +6,7 @@ ghost use Rattle.sp_lexer.specs.Tokens.{greatest_number};
 
 use sp_text::{is_digit, is_letter};
 
-/// The greatest number of a text.
+/// The greatest number of a text, 2 ^ 63 - 1.
 const GREATEST_NUMBER: u64 = 9_223_372_036_854_775_807;
 
 /// Digits of a text.

@@ -141,7 +141,9 @@ fn spelling(keyword: Keyword) -> &'static [u8]
 
 /// The keyword that is spelled so.
 pub fn keyword(word: &[u8]) -> Option<Keyword>
-    ensures { MatchOption result ((k : Keyword) → word.now ≢ keyword_text k) (λ k. word.now ≡ keyword_text k) }
+    ensures { MatchOption result
+        ((k : Keyword) → word.now ≢ keyword_text k)
+        (λ k. word.now ≡ keyword_text k) }
 {
     KEYWORDS
         .iter()
@@ -151,7 +153,9 @@ pub fn keyword(word: &[u8]) -> Option<Keyword>
 
 /// The symbol that is spelled by these two bytes.
 pub fn double_symbol(first: u8, second: u8) -> Option<Symbol>
-    ensures { MatchOption result ((s : Symbol) → symbol_text s ≢ first ∷ second ∷ []) (λ s. symbol_text s ≡ first ∷ second ∷ []) }
+    ensures { MatchOption result
+        ((s : Symbol) → symbol_text s ≢ first ∷ second ∷ [])
+        (λ s. symbol_text s ≡ first ∷ second ∷ []) }
 {
     match (first, second) {
         (b'~', b'=') => Some(Symbol::NotEqual),
@@ -164,7 +168,9 @@ pub fn double_symbol(first: u8, second: u8) -> Option<Symbol>
 
 /// The symbol that is spelled by this byte.
 pub fn single_symbol(byte: u8) -> Option<Symbol>
-    ensures { MatchOption result ((s : Symbol) → symbol_text s ≢ byte ∷ []) (λ s. symbol_text s ≡ byte ∷ []) }
+    ensures { MatchOption result
+        ((s : Symbol) → symbol_text s ≢ byte ∷ [])
+        (λ s. symbol_text s ≡ byte ∷ []) }
 {
     match byte {
         b'(' => Some(Symbol::LeftParenthesis),

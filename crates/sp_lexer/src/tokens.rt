@@ -64,10 +64,8 @@ fn add_token(
             quantity: Quantity::Tokens,
         }));
     }
-    let kind = token_kind(alloc, lexeme, &text[place..piece.end]).map_err(|_| TextFault::Memory)?;
-    tokens
-        .push(Token { kind, span })
-        .map_err(|_| TextFault::Memory)?;
+    let kind = token_kind(alloc, lexeme, &text[place..piece.end])?;
+    tokens.push(Token { kind, span })?;
     Ok(())
 }
 

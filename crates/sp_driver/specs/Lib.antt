@@ -1,0 +1,9 @@
+pub mod Early
+pub mod Lines
+pub mod Meant
+pub mod Report
+pub mod Run
+pub mod RunCommand
+pub mod Status
+pub mod Steps
+pub mod Words

@@ -1,0 +1,2 @@
+//! Divides a text into tokens.
+#![tactic(auto)]

@@ -1,2 +1,6 @@
 //! Divides a text into tokens.
 #![tactic(auto)]
+
+mod tokens;
+
+pub use tokens::lex;

@@ -1,21 +1,14 @@
 -- The value of digits, with one digit more.
-use Rattle.std.proofs.Common.{◌≡◌, ℕ, ◌+◌, ◌-◌, ◌*◌, ◌<◌, ◌≤◌, List, [], ◌∷◌, ◌++◌, length, take, drop, get_or, slice_range, slice_index, Option, Some, None, MatchOption, ◌∙◌, ap, subst, arith, length-drop, get_or-drop}
-use Rattle.std.proofs.lemmas.List.{take_more}
+use Rattle.std.proofs.Common.{◌≡◌, ℕ, ◌+◌, ◌-◌, ◌*◌, ◌<◌, ◌≤◌, List, length, slice_range, slice_index, Option, Some, None, MatchOption, ◌∙◌, ap, arith}
 use Rattle.std.proofs.lemmas.List.Sums.{fold_push}
 use Rattle.sp_lexer.specs.Pieces.{number_of}
 use Rattle.sp_lexer.specs.Tokens.{greatest_number}
-
-range_more : (text : List ℕ) (start end : ℕ) → start ≤ end → end < length text → slice_range text start (end + 1) ≡ slice_range text start end ++ slice_index text end ∷ []
-range_more text start end h k =
-    let e : (end + 1) - start ≡ (end - start) + 1 = omega arith in
-    let lt : end - start < length (drop start text) = omega (arith, length-drop start text) in
-    let g : get_or (drop start text) (end - start) 0 ≡ get_or text end 0 = get_or-drop start text (end - start) 0 ∙ ap (λ n. get_or text n 0) (omega arith) in
-    ap (λ n. take n (drop start text)) e ∙ take_more (drop start text) (end - start) 0 lt ∙ ap (λ (x : ℕ). take (end - start) (drop start text) ++ x ∷ []) g
+use Rattle.sp_lexer.proofs.Ranges.{range-more}
 
 pub number_more : (text : List ℕ) (start end : ℕ) → start ≤ end → end < length text
     → number_of (slice_range text start (end + 1)) ≡ 10 * number_of (slice_range text start end) + (slice_index text end - 48)
 number_more text start end h k =
-    ap number_of (range_more text start end h k) ∙ fold_push (λ n digit. 10 * n + (digit - 48)) 0 (slice_range text start end) (slice_index text end)
+    ap number_of (range-more text start end h k) ∙ fold_push (λ n digit. 10 * n + (digit - 48)) 0 (slice_range text start end) (slice_index text end)
 
 -- what is known of a value that may be too large
 abbrev Values : Option ℕ → ℕ → Type 0

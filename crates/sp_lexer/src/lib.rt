@@ -1,8 +1,9 @@
 //! Divides a text into tokens.
 #![tactic(auto)]
 
+mod piece;
 mod scan;
 mod spelling;
+mod tokens;
 
-pub use spelling::{keyword, double_symbol, single_symbol};
-pub use scan::{word_end, scan_digits, comment_end, Digits};
+pub use tokens::lex;

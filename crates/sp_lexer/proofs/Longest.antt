@@ -76,17 +76,17 @@ module _ (text : List ℕ) where
 
   run_ends : (class : ℕ → Bool) (i j m : ℕ) → IsWholeRun text class i j → IsRun text class i m → m ≤ j
   run_ends class i j m w r = elim (cases_lt j m) [
-      inl lt ↦ absurd (w.stops (omega (arith, r.within)) (r.each j w.onwards lt))
+    | inl lt ↦ absurd (w.stops (omega (arith, r.within)) (r.each j w.onwards lt))
     | inr le ↦ le
-    ]
+  ]
 
   -- a whole run that begins with a byte of its class has a byte
   pub run_of : (class : ℕ → Bool) (i j : ℕ) → i < length text → IsTrue (class (slice_index text i)) → IsWholeRun text class i j → IsRun text class i j
   run_of class i j h b w = record {
     some = elim (cases_lt i j) [
-        inl lt ↦ lt
+      | inl lt ↦ lt
       | inr le ↦ (let e : j ≡ i = omega (arith, w.onwards) in absurd (w.stops (omega arith) (rw e b)))
-      ];
+    ];
     within = w.within;
     each = w.each;
   }
@@ -114,9 +114,9 @@ module _ (text : List ℕ) where
 
   comment_ends : (i j m : ℕ) → IsComment text i j → IsComment text i m → m ≤ j
   comment_ends i j m h k = elim (cases_lt j m) [
-      inl lt ↦ absurd (k.between (j - 1) (omega (arith, h.room)) (omega (arith, h.room)) h.closes)
+    | inl lt ↦ absurd (k.between (j - 1) (omega (arith, h.room)) (omega (arith, h.room)) h.closes)
     | inr le ↦ le
-    ]
+  ]
 
   pub comment_longest : (i j : ℕ) → IsComment text i j → IsLongest text comment i j
   comment_longest i j h = record {

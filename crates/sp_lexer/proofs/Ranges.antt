@@ -27,4 +27,4 @@ pub range-two : (text : List ℕ) (start : ℕ) → start + 1 < length text → 
 range-two text start h =
     let e : start + 2 ≡ (start + 1) + 1 = omega arith in
     ap (λ n. slice_range text start n) e ∙ range-more text start (start + 1) (omega arith) h
-      ∙ ap (λ (xs : List ℕ). xs ++ slice_index text (start + 1) ∷ []) (range-one text start (omega arith))
+    ∙ ap (λ (xs : List ℕ). xs ++ slice_index text (start + 1) ∷ []) (range-one text start (omega arith))

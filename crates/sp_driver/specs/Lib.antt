@@ -1,0 +1,2 @@
+pub mod SmallTexts
+pub mod SmallFronts

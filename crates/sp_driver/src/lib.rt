@@ -1,0 +1,4 @@
+//! The commands over texts.
+#![tactic(auto)]
+
+pub mod small;

@@ -1,0 +1,5 @@
+pub mod Tree
+pub mod Effects
+pub mod Values
+pub mod Machine
+pub mod Security

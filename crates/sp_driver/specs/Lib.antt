@@ -1,2 +1,3 @@
 pub mod SmallTexts
 pub mod SmallFronts
+pub mod SmallRules

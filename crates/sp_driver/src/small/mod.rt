@@ -4,6 +4,14 @@ pub mod fault;
 mod instance;
 mod interface;
 mod module;
+mod rules;
 mod script;
+mod subject;
 pub mod texts;
 mod tokens;
+
+pub use instance::read_instance;
+pub use interface::read_interface;
+pub use module::read_module;
+pub use rules::{is_sound_interface, is_sound_script};
+pub use script::read_script;

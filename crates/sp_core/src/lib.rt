@@ -3,6 +3,12 @@
 
 mod expr;
 mod function;
+mod instance;
+mod spec;
+mod state;
 
 pub use expr::Expr;
 pub use function::{Answer, Assertion, Effect, Formal, Function, Kind, Param, TypeInfo};
+pub use instance::{Instance, Table};
+pub use spec::Spec;
+pub use state::State;

@@ -4,6 +4,9 @@ pub mod Meant
 pub mod Report
 pub mod Run
 pub mod RunCommand
+pub mod SmallFronts
+pub mod SmallRules
+pub mod SmallTexts
 pub mod Status
 pub mod Steps
 pub mod Words

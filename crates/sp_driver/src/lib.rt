@@ -7,6 +7,7 @@ mod lines;
 mod load;
 mod report;
 mod run_report;
+pub mod small;
 mod status;
 mod top_call;
 mod words;

@@ -25,7 +25,7 @@ impl Name {
     pub fn new(alloc: Global, bytes: &[u8]) -> Result<Name, Memory>
         ensures { IfOk result (λ name. name ≡ bytes.now) }
     {
-        let bytes = bytes.to_vec(alloc).map_err(|_| Memory)?;
+        let bytes = bytes.to_vec(alloc)?;
         Ok(Name { bytes })
     }
 

@@ -13,7 +13,8 @@ pub fn push_text(_alloc: Global, out: &mut Vec<u8>, text: &[u8]) -> Result<(), M
     ensures ok { OnOk result (out.new.items ≡ out.old.items ++ text.now) }
     ensures err { OnErr result (out.new.items ≡ out.old.items) }
 {
-    out.extend_from_slice(text).map_err(|_| Memory)
+    out.extend_from_slice(text)?;
+    Ok(())
 }
 
 /// Appends the decimal text of the number, with `-` before a negative one.

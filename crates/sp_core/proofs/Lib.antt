@@ -1,0 +1,7 @@
+pub mod Agree
+pub mod Looks
+pub mod Unique
+pub mod Steps
+pub mod Types
+pub mod InstanceLemmas
+pub mod StateLemmas

@@ -1,0 +1,11 @@
+pub mod Tree
+pub mod Effects
+pub mod Values
+pub mod Machine
+pub mod Security
+pub mod States
+pub mod Typing
+pub mod Measures
+pub mod Parts
+pub mod WellFormed
+pub mod Instances

@@ -1,0 +1,14 @@
+//! Typed specifications and what they mean: values of expressions, states, steps, runs and security.
+#![tactic(auto)]
+
+mod expr;
+mod function;
+mod instance;
+mod spec;
+mod state;
+
+pub use expr::Expr;
+pub use function::{Answer, Assertion, Effect, Formal, Function, Kind, Param, TypeInfo};
+pub use instance::{Instance, Table};
+pub use spec::Spec;
+pub use state::State;

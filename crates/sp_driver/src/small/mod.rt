@@ -1,0 +1,17 @@
+//! Texts of a small form, and the run of their script.
+
+pub mod fault;
+mod instance;
+mod interface;
+mod module;
+mod rules;
+mod script;
+mod subject;
+pub mod texts;
+mod tokens;
+
+pub use instance::read_instance;
+pub use interface::read_interface;
+pub use module::read_module;
+pub use rules::{is_sound_interface, is_sound_script};
+pub use script::read_script;

@@ -1,0 +1,6 @@
+pub mod Bounds
+pub mod Closure
+pub mod Order
+pub mod Product
+pub mod Refusal
+pub mod Table

@@ -1,0 +1,14 @@
+//! Finite lattices of security levels: those of declared pairs, and the products of a chain and categories.
+#![tactic(auto)]
+
+mod decl;
+mod lattice;
+mod laws;
+mod table;
+
+pub use decl::{LatticeDecl, LatticeFault, MAX_LEVELS};
+pub use lattice::Lattice;
+pub use laws::{product_is_lattice, product_numbers};
+
+#[cfg(test)]
+mod tests;

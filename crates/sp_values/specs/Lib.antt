@@ -1,0 +1,3 @@
+pub mod Arithmetic
+pub mod Domains
+pub mod Identity

@@ -9,4 +9,6 @@ pub mod SmallRules
 pub mod SmallTexts
 pub mod Status
 pub mod Steps
+pub mod System
+pub mod Texts
 pub mod Words

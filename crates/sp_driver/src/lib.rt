@@ -2,13 +2,16 @@
 #![tactic(auto)]
 
 mod deliver;
+mod forms;
 mod laws;
 mod lines;
 mod load;
+mod read;
 mod report;
 mod run_report;
 pub mod small;
 mod status;
+mod system;
 mod top_call;
 mod words;
 

@@ -2,6 +2,7 @@ ghost use Rattle.std.specs.Prelude.{◌≡◌, ◌≤◌, ℕ, [], Option, None,
 ghost use Rattle.sp_outside.specs.Causes.{Rose};
 ghost use Rattle.sp_outside.specs.Files.{Files, IsTooLong, first_file};
 
+use std::alloc::AllocError;
 use thiserror::Error;
 
 /// Why a file wasn't loaded.
@@ -15,6 +16,17 @@ pub enum LoadFault {
     Failed,
     #[error("memory was refused")]
     Memory,
+}
+
+impl From<AllocError> for LoadFault {
+    ghost use Rattle.std.specs.Prelude.{◌≡◌};
+    ghost use Rattle.sp_outside.specs.declared.library.LoadFault.TheVariants as fault;
+
+    ghost from_gives = { λ _ f. f ≡ fault.Memory };
+
+    fn from(_refused: AllocError) -> LoadFault {
+        LoadFault::Memory
+    }
 }
 
 /// A source of files.

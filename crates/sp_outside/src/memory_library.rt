@@ -99,5 +99,6 @@ fn copy_within(bytes: &[u8], limit: u64, into: &mut Vec<u8>) -> Result<(), LoadF
     if bytes.len() as u64 > limit {
         return Err(LoadFault::TooLong);
     }
-    into.extend_from_slice(bytes).map_err(|_| LoadFault::Memory)
+    into.extend_from_slice(bytes)?;
+    Ok(())
 }

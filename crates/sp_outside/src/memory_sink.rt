@@ -35,7 +35,7 @@ impl MemorySink {
         ensures room { IfOk result (λ sink. sink.limit ≡ n) }
         ensures fresh { IfOk result (λ sink. sink.faults ≡ 0) }
     {
-        let bytes = Vec::with_capacity(alloc, n).map_err(|_| Memory)?;
+        let bytes = Vec::with_capacity(alloc, n)?;
         Ok(MemorySink {
             bytes,
             limit: n,

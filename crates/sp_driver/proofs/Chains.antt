@@ -29,12 +29,14 @@ module _ {T : Type 0} (refused : Files → List ℕ → Status → Type 0) (give
   refused_after told now (Err (Refused report)) same g h = at_report told now report same g h
   refused_after told now (Err (Stopped s)) same g h = tt
 
--- a refusal for what is known of a text alone is one over any files
+-- a report for what is known without files is one over any files
+pub report_anyway : (meaning : List ℕ → Status → Type 0) (told : Option Files) (r : Report) → meaning r.bytes.items r.status → Reports told (λ files. meaning) r
+report_anyway meaning None r h = tt
+report_anyway meaning (Some files) r h = h
+
+-- and so is a refusal
 pub refused_anyway : {U : Type 0} (meaning : List ℕ → Status → Type 0) (told : Option Files) (r : Result U Early)
     → IfRefused r (λ report. meaning report.bytes.items report.status) → IfRefused r (Reports told (λ files. meaning))
-refused_anyway meaning None (Ok y) h = tt
-refused_anyway meaning None (Err (Refused report)) h = tt
-refused_anyway meaning None (Err (Stopped s)) h = tt
-refused_anyway meaning (Some files) (Ok y) h = tt
-refused_anyway meaning (Some files) (Err (Refused report)) h = h
-refused_anyway meaning (Some files) (Err (Stopped s)) h = tt
+refused_anyway meaning told (Ok y) h = tt
+refused_anyway meaning told (Err (Refused report)) h = report_anyway meaning told report h
+refused_anyway meaning told (Err (Stopped s)) h = tt

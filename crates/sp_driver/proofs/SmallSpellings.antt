@@ -44,7 +44,7 @@ literal_is l m p q =
     subst (λ (n : Bool). l ≡ literal n m.magnitude m.unsigned) p
     (subst (λ (k : ℤ). (u : pos 0 ≤ℤ k) → l ≡ literal l.negative k u) q (λ u. ap (literal l.negative l.magnitude) (one l.magnitude l.unsigned u)) m.unsigned)
 
-literal_same : (l m : SmallLiteral) (r s : List TokenKind) → literal_spelling l ++ r ≡ literal_spelling m ++ s → (l ≡ m) × (r ≡ s)
+pub literal_same : (l m : SmallLiteral) (r s : List TokenKind) → literal_spelling l ++ r ≡ literal_spelling m ++ s → (l ≡ m) × (r ≡ s)
 literal_same l m r s h = by_sign l.negative m.negative refl refl h
   where
     by_sign : (n n' : Bool) → l.negative ≡ n → m.negative ≡ n'

@@ -14,6 +14,10 @@ Says line code bytes got = (bytes ≡ line) × (got ≡ code)
 abbrev pub Then : {T : Type 0} → (List ℕ → Status → Type 0) → (T → Type 0) → (T → List ℕ → Status → Type 0) → List ℕ → Status → Type 0
 Then {T} refused gives next bytes got = refused bytes got ⊎ ((x : T) × gives x × next x bytes got)
 
+-- a rule is demanded: where it doesn't hold there is a refusal, and else the work goes on
+abbrev pub Demand : Type 0 → (List ℕ → Status → Type 0) → (List ℕ → Status → Type 0) → List ℕ → Status → Type 0
+Demand rule refused next bytes got = (¬ rule × refused bytes got) ⊎ (rule × next bytes got)
+
 -- the greatest number of bytes of a text
 abbrev pub most_bytes : ℕ
 most_bytes = 1048576

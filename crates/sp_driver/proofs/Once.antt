@@ -57,9 +57,9 @@ module _ {T : Type 0} (refused : List ℕ → Status → Type 0) (gives : T → 
     refused_once = then_once (λ x given. (g x given).refused_once);
     gives_once = λ y z p q. (g q.0 q.1).gives_once y z (subst (λ x. gives_next x y) (h.gives_once p.0 q.0 p.1 q.1) p.2) q.2;
     apart = λ a s y r q. elim r [
-        | inl p ↦ h.apart a s q.0 p q.1
-        | inr p ↦ (g q.0 q.1).apart a s y (subst (λ x. next x a s) (h.gives_once p.0 q.0 p.1 q.1) p.2) q.2
-      ];
+      | inl p ↦ h.apart a s q.0 p q.1
+      | inr p ↦ (g q.0 q.1).apart a s y (subst (λ x. next x a s) (h.gives_once p.0 q.0 p.1 q.1) p.2) q.2
+    ];
   }
 
 -- ---- files
@@ -127,9 +127,9 @@ module _ (files : Files) where
   system_once name x y p q =
       let i = (interface_settled name).gives_once x.interface y.interface p.interface_read q.interface_read in
       let m = (module_settled (module_file y.interface.tree.module)).gives_once x.module y.module
-          (subst (λ (r : Reading SmallInterface). ReadGives module_spelling (module_file r.tree.module) files x.module) i p.parts_read.module_read) q.parts_read.module_read in
+      (subst (λ (r : Reading SmallInterface). ReadGives module_spelling (module_file r.tree.module) files x.module) i p.parts_read.module_read) q.parts_read.module_read in
       let s = (instance_settled (instance_file y.interface.tree.sample)).gives_once x.sample y.sample
-          (subst (λ (r : Reading SmallInterface). ReadGives instance_spelling (instance_file r.tree.sample) files x.sample) i p.parts_read.sample_read) q.parts_read.sample_read in
+      (subst (λ (r : Reading SmallInterface). ReadGives instance_spelling (instance_file r.tree.sample) files x.sample) i p.parts_read.sample_read) q.parts_read.sample_read in
       ap (λ r. system r x.module x.sample) i ∙ ap (λ r. system y.interface r x.sample) m ∙ ap (system y.interface y.module) s
 
   parts_apart : (a : List ℕ) (s : Status) (x : System) → PartsRefused x.interface.tree files a s → (name : List ℕ) → SystemGives name files x → ⊥

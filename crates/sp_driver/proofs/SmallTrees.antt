@@ -33,7 +33,7 @@ module _ {T : Type 0} (spelling : T → List TokenKind) (Rest End : List TokenKi
   parts_same (x ∷ xs) [] r s e f h = absurd (lacks x s _ f (sym h ∙ append_assoc (spelling x) (flat_map spelling xs) r))
   parts_same (x ∷ xs) (y ∷ ys) r s e f h =
       let first = same x y (flat_map spelling xs ++ r) (flat_map spelling ys ++ s) (rests xs r e) (rests ys s f)
-          (sym (append_assoc (spelling x) (flat_map spelling xs) r) ∙ h ∙ append_assoc (spelling y) (flat_map spelling ys) s) in
+      (sym (append_assoc (spelling x) (flat_map spelling xs) r) ∙ h ∙ append_assoc (spelling y) (flat_map spelling ys) s) in
       let others = parts_same xs ys r s e f first.1 in
       (ap (λ z. z ∷ xs) first.0 ∙ ap (λ zs. y ∷ zs) others.0, others.1)
 

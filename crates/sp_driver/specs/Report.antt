@@ -3,7 +3,7 @@
 use Rattle.std.specs.Prelude.{ℕ, List, Option, Some, None}
 use Rattle.sp_outside.specs.Files.{Files}
 use Rattle.sp_driver.specs.Lines.{words_line}
-use Rattle.sp_driver.specs.RunCommand.{RunReport}
+use Rattle.sp_driver.specs.RunCommand.{RunComesTo, RunReport}
 use Rattle.sp_driver.specs.Steps.{Says}
 use Rattle.sp_driver.specs.Words.{Command, command_of, run}
 use Rattle.sp_driver.specs.declared.status.Status.{Status}
@@ -26,3 +26,11 @@ IsReport words = ReportOf (command_of words)
 abbrev pub IsLoading : Option Command → Type 0
 IsLoading None = ⊥
 IsLoading (Some (run interface instance script)) = Unit {0}
+
+-- the work of the words comes to the file of this name
+abbrev pub CommandComesTo : Option Command → Files → List ℕ → Type 0
+CommandComesTo None files name = ⊥
+CommandComesTo (Some (run interface instance script)) files name = RunComesTo interface instance script files name
+
+abbrev pub ComesTo : List (List ℕ) → Files → List ℕ → Type 0
+ComesTo words = CommandComesTo (command_of words)

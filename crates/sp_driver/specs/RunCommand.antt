@@ -1,12 +1,13 @@
 -- The report of `run`: the answers of a script of an interface, from its initial state in an instance.
-use Rattle.std.specs.Prelude.{ℕ, List}
+use Rattle.std.specs.Prelude.{◌≡◌, ◌⊎◌, ℕ, List}
 use Rattle.sp_outside.specs.Files.{Files}
 use Rattle.sp_driver.specs.SmallRules.{IsSoundInterface, IsSoundScript}
 use Rattle.sp_driver.specs.SmallTexts.{instance_spelling, script_spelling}
 use Rattle.sp_driver.specs.Steps.{Demand, Then}
-use Rattle.sp_driver.specs.System.{SystemGives, SystemRefused}
+use Rattle.sp_driver.specs.System.{SystemComesTo, SystemGives, SystemRefused}
 use Rattle.sp_driver.specs.Texts.{ReadGives, ReadRefused, UnbuiltText}
 use Rattle.sp_driver.specs.declared.read.Reading.{Reading}
+use Rattle.sp_driver.specs.declared.small.texts.SmallInstance.{SmallInstance}
 use Rattle.sp_driver.specs.declared.small.texts.SmallScript.{SmallScript}
 use Rattle.sp_driver.specs.declared.status.Status.{Status}
 use Rattle.sp_driver.specs.declared.system.System.{System}
@@ -30,3 +31,14 @@ WorkReport interface instance script system files =
 abbrev pub RunReport : List ℕ → List ℕ → List ℕ → Files → List ℕ → Status → Type 0
 RunReport interface instance script files =
     Then (SystemRefused interface files) (SystemGives interface files) (λ system. WorkReport interface instance script system files)
+
+-- the work comes to the file of this name: those before it are read
+abbrev pub WorkComesTo : List ℕ → List ℕ → Files → List ℕ → Type 0
+WorkComesTo instance script files name =
+    (name ≡ instance)
+    ⊎ ((n : Reading SmallInstance) × ReadGives instance_spelling instance files n × (name ≡ script))
+
+abbrev pub RunComesTo : List ℕ → List ℕ → List ℕ → Files → List ℕ → Type 0
+RunComesTo interface instance script files name =
+    SystemComesTo interface files name
+    ⊎ ((system : System) × SystemGives interface files system × WorkComesTo instance script files name)

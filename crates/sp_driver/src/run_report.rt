@@ -88,7 +88,11 @@ fn unbuilt_report(alloc: Global, name: &str, end: u32) -> Result<Report, Memory>
     })
 }
 
-fn answered_report(_alloc: Global, _system: &System, _script: &SmallScript) -> Result<Report, Memory>
+fn answered_report(
+    _alloc: Global,
+    _system: &System,
+    _script: &SmallScript,
+) -> Result<Report, Memory>
     ensures reports { IfOk result (λ report. AnsweredReport _system.now _script.now report.bytes.items report.status) }
     ensures no_words { IfOk result (λ report. report.status ≢ Status.Words) }
 {

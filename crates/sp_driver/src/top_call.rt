@@ -3,7 +3,7 @@ ghost use Rattle.sp_outside.specs.Causes.{Rose};
 ghost use Rattle.sp_driver.specs.Early.{IfReport, IsReadFault, Reports};
 ghost use Rattle.sp_driver.specs.Report.{CommandReport, IsLoading, IsReport};
 ghost use Rattle.sp_driver.specs.Meant.{command_meant};
-ghost use Rattle.sp_driver.specs.Run.{CutShort, Reported};
+ghost use Rattle.sp_driver.specs.Run.{AnswersWhere, CutShort, IsDetermined, MeetsMissing, MeetsTooLong, Reported};
 ghost use Rattle.sp_driver.specs.Status.{is_reported};
 ghost use Rattle.sp_driver.specs.Words.{command_of, texts_of};
 
@@ -18,6 +18,40 @@ use std::alloc::Global;
 
 /// Does the work that the words name, and writes its report once that is complete.
 pub fn run<L: Library, S: Sink>(alloc: Global, words: &[String], lib: &mut L, out: &mut S) -> Status
+    // The status and the bytes are those of the report.
+    ensures reported { IsTrue (is_reported result) → IfSome (L.told lib.old) (Reported (texts_of words.now) result (S.told out.old) (S.told out.new)) }
+
+    ensures determined { IfSome (L.told lib.old) (IsDetermined (texts_of words.now) result) }
+
+    // Words, exactly where they are no command, and whatever the library.
+    ensures words_only { result ≡ Status.Words → command_of (texts_of words.now) ≡ None }
+    ensures words_always { command_of (texts_of words.now) ≡ None → (result ≡ Status.Words) ⊎ (result ≡ Status.WriteFault) ⊎ (result ≡ Status.Memory) }
+
+    // Missing and Limit of bytes, exactly where the first file that isn't read is missing or too long.
+    ensures missing_only { result ≡ Status.Missing → IfSome (L.told lib.old) (MeetsMissing (texts_of words.now)) }
+    ensures missing_always { IfSome (L.told lib.old) (λ files. AnswersWhere (MeetsMissing (texts_of words.now)) Status.Missing result files) }
+    ensures limit_only { result ≡ Status.Limit → IfSome (L.told lib.old) (MeetsTooLong (texts_of words.now)) }
+    ensures limit_always { IfSome (L.told lib.old) (λ files. AnswersWhere (MeetsTooLong (texts_of words.now)) Status.Limit result files) }
+
+    // Each other answer has its cause, and writes no more than is said.
+    ensures read_fault { result ≡ Status.ReadFault → Rose (L.faults lib.old) (L.faults lib.new) }
+    ensures loading { result ≡ Status.ReadFault → IsLoading (command_of (texts_of words.now)) }
+    ensures write_fault { result ≡ Status.WriteFault → Rose (S.faults out.old) (S.faults out.new) }
+    ensures cut_short { result ≡ Status.WriteFault → IfSome (L.told lib.old) (CutShort (texts_of words.now) (S.told out.old) (S.told out.new)) }
+    ensures unread { result ≡ Status.ReadFault → S.told out.new ≡ S.told out.old }
+    ensures memory { result ≡ Status.Memory → S.told out.new ≡ S.told out.old }
+
+    // Where no count rose, there is a report, or memory was refused.
+    ensures complete { ¬ Rose (L.faults lib.old) (L.faults lib.new) → ¬ Rose (S.faults out.old) (S.faults out.new) → IsTrue (is_reported result) ⊎ (result ≡ Status.Memory) }
+
+    ensures same { L.told lib.new ≡ L.told lib.old }
+    ensures later { (L.faults lib.old ≤ L.faults lib.new) × (S.faults out.old ≤ S.faults out.new) }
+{
+    perform(alloc, words, lib, out)
+}
+
+// Does the work that the words name, and writes its report.
+fn perform<L: Library, S: Sink>(alloc: Global, words: &[String], lib: &mut L, out: &mut S) -> Status
     // The status and the bytes are those of the report.
     ensures reported { IsTrue (is_reported result) → IfSome (L.told lib.old) (Reported (texts_of words.now) result (S.told out.old) (S.told out.new)) }
 

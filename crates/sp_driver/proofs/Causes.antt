@@ -3,6 +3,7 @@ use Rattle.std.proofs.Common.{◌≡◌, ◌⊎◌, ◌∙◌, ℕ, List, Bool, 
 use Rattle.std.specs.Prelude.{IfSome}
 use Rattle.sp_text.specs.declared.token.TokenKind.{TokenKind}
 use Rattle.sp_outside.specs.Files.{Files}
+use Rattle.sp_outside.specs.Written.{Appends}
 use Rattle.sp_driver.specs.Lines.{missing_line, too_long_line}
 use Rattle.sp_driver.specs.Report.{CommandComesTo, ComesTo, IsReport, ReportOf}
 use Rattle.sp_driver.specs.Run.{AnswersWhere, IsDetermined, MeetsMissing, MeetsTooLong, Reported}
@@ -124,26 +125,32 @@ too_long_met words files a h = by m.2
 -- ---- the rows of the top call
 
 module _ (words : List (List ℕ)) (before now : Option (List ℕ)) (s : Status) where
-  at_files : (files : Files) → (IsTrue (is_reported s) → Reported words s before now files) → IsDetermined words s files
+  at_files : (files : Files) → (IsTrue (is_reported s) → Reported words s before now files) → IsDetermined words s before now files
   at_files files h bytes code report = by (is_reported s) refl
     where
-      by : (b : Bool) → is_reported s ≡ b → (s ≡ code) ⊎ IsFailure s
-      by true e = inl (once words files (h e).0 bytes s code (h e).1 report).1
+      by : (b : Bool) → is_reported s ≡ b → ((s ≡ code) × Appends before now bytes) ⊎ IsFailure s
+      by true e =
+          let r = h e in
+          let same = once words files r.0 bytes s code r.1 report in
+          inl (same.1, subst (Appends before now) same.0 r.2)
       by false e = inr e
 
-  pub determined : (told : Option Files) → (IsTrue (is_reported s) → IfSome told (Reported words s before now)) → IfSome told (IsDetermined words s)
+  pub determined : (told : Option Files) → (IsTrue (is_reported s) → IfSome told (Reported words s before now)) → IfSome told (IsDetermined words s before now)
   determined None h = tt
   determined (Some files) h = at_files files h
+
+  status_at : (files : Files) → (IsTrue (is_reported s) → Reported words s before now files) → (bytes : List ℕ) (code : Status) → IsReport words files bytes code → (s ≡ code) ⊎ IsFailure s
+  status_at files h bytes code report = elim (at_files files h bytes code report) [ inl p ↦ inl p.0 | inr f ↦ inr f ]
 
   pub missing_always : (told : Option Files) → (IsTrue (is_reported s) → IfSome told (Reported words s before now)) → IfSome told (AnswersWhere (MeetsMissing words) status.Missing s)
   missing_always None h = tt
   missing_always (Some files) h = λ m.
-      at_files files h _ status.Missing (command_report files m.0 _ status.Missing (inl (m.2, (refl, refl))) (command_of words) m.1)
+      status_at files h _ status.Missing (command_report files m.0 _ status.Missing (inl (m.2, (refl, refl))) (command_of words) m.1)
 
   pub limit_always : (told : Option Files) → (IsTrue (is_reported s) → IfSome told (Reported words s before now)) → IfSome told (AnswersWhere (MeetsTooLong words) status.Limit s)
   limit_always None h = tt
   limit_always (Some files) h = λ m.
-      at_files files h _ status.Limit (command_report files m.0 _ status.Limit (inr (m.2, (refl, refl))) (command_of words) m.1)
+      status_at files h _ status.Limit (command_report files m.0 _ status.Limit (inr (m.2, (refl, refl))) (command_of words) m.1)
 
   pub missing_only : (told : Option Files) → (IsTrue (is_reported s) → IfSome told (Reported words s before now)) → s ≡ status.Missing → IfSome told (MeetsMissing words)
   missing_only None h e = tt

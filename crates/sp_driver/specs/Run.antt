@@ -28,6 +28,7 @@ MeetsTooLong words files = (name : List ℕ) × ComesTo words files name × IsTo
 abbrev pub AnswersWhere : (Files → Type 0) → Status → Status → Files → Type 0
 AnswersWhere cause code status files = cause files → (status ≡ code) ⊎ IsFailure status
 
--- the status is that of each report of the words, unless a read, a write or memory failed
-abbrev pub IsDetermined : List (List ℕ) → Status → Files → Type 0
-IsDetermined words status files = (bytes : List ℕ) (code : Status) → IsReport words files bytes code → (status ≡ code) ⊎ IsFailure status
+-- the status is that of each report of the words, whose bytes were written, unless a read, a write or memory failed
+abbrev pub IsDetermined : List (List ℕ) → Status → Option (List ℕ) → Option (List ℕ) → Files → Type 0
+IsDetermined words status before now files =
+    (bytes : List ℕ) (code : Status) → IsReport words files bytes code → ((status ≡ code) × Appends before now bytes) ⊎ IsFailure status

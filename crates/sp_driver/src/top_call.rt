@@ -21,7 +21,7 @@ pub fn run<L: Library, S: Sink>(alloc: Global, words: &[String], lib: &mut L, ou
     // The status and the bytes are those of the report.
     ensures reported { IsTrue (is_reported result) → IfSome (L.told lib.old) (Reported (texts_of words.now) result (S.told out.old) (S.told out.new)) }
 
-    ensures determined { IfSome (L.told lib.old) (IsDetermined (texts_of words.now) result) }
+    ensures determined { IfSome (L.told lib.old) (IsDetermined (texts_of words.now) result (S.told out.old) (S.told out.new)) }
 
     // Words, exactly where they are no command, and whatever the library.
     ensures words_only { result ≡ Status.Words → command_of (texts_of words.now) ≡ None }

@@ -1,3 +1,5 @@
 pub mod SmallTexts
 pub mod SmallFronts
 pub mod SmallRules
+pub mod SmallCore
+pub mod PlainForm

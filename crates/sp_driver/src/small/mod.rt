@@ -1,6 +1,8 @@
 //! Texts of a small form, and the run of their script.
 
 pub mod fault;
+mod evaluate;
+mod functions;
 mod instance;
 mod interface;
 mod module;

@@ -3,3 +3,4 @@ pub mod SmallFronts
 pub mod SmallRules
 pub mod SmallCore
 pub mod PlainForm
+pub mod PlainWork

@@ -8,7 +8,7 @@ ghost use Rattle.sp_driver.specs.PlainForm.{IsStored, IsPlainTerm, HoldsIntegers
 use sp_core::{Expr, Function, Kind, State};
 use sp_values::{Args, Op, Place, Value, add};
 
-fn place(g: u16) -> Place
+pub fn place(g: u16) -> Place
     ensures fun { result.fun ≡ g }
     ensures args { result.args ≡ [] }
 {

@@ -8,6 +8,7 @@ mod interface;
 mod module;
 mod rules;
 mod script;
+mod step;
 mod subject;
 pub mod texts;
 mod tokens;

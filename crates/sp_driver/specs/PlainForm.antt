@@ -16,7 +16,8 @@ use Rattle.sp_core.specs.declared.function.Kind.TheVariants as kind
 use Rattle.sp_core.specs.declared.function.Function.{Function}
 use Rattle.sp_core.specs.Effects.{Change, EffectTree, effect_tree, effect_trees_of, changes_in}
 use Rattle.sp_core.specs.Tree.{Tree, Const, Look, Two, none, tree}
-use Rattle.sp_core.specs.Values.{Store}
+use Rattle.sp_core.specs.Machine.{Changes, Machine}
+use Rattle.sp_core.specs.Values.{Store, World}
 
 -- the value of a constant, and the initial value of a V-function whose is one; `?` for all others
 abbrev pub constant_of : Tree → Value
@@ -77,3 +78,11 @@ pub record IsPlainInvocation (functions : List Function) (i : Invocation) : Type
 -- each entry is an integer
 abbrev pub HoldsIntegers : Store → Type 0
 HoldsIntegers s = (g : ℕ) (v : List Value) (x : Value) → s g v ≡ Some x → IsInteger x
+
+-- the machine of functions, whatever the lattice and the instance
+abbrev pub plain_machine : World → List Function → Machine
+plain_machine w functions = record { world = w; functions = functions }
+
+-- from state s the effects make state t
+abbrev pub ArePlainlyChanged : List Function → List Effect → Store → Store → Type 0
+ArePlainlyChanged functions effects s t = (w : World) (i : Invocation) → i.args ≡ [] → Changes (plain_machine w functions) s s i (changes_in (effect_trees_of (map effect_tree effects))) t

@@ -1,11 +1,11 @@
-ghost use Rattle.std.specs.Prelude.{◌≡◌, ◌≤◌, ◌+◌, ℕ, length, map, IfOk, OnErr};
+ghost use Rattle.std.specs.Prelude.{◌≡◌, ◌≤◌, ◌+◌, ℕ, length, map, IfOk, OnOk, OnErr};
 ghost use Rattle.std.specs.List.{All};
 ghost use Rattle.sp_values.specs.Arithmetic.{IsInteger};
 ghost use Rattle.sp_core.specs.Effects.{effect_tree};
 ghost use Rattle.sp_core.specs.Machine.{Step};
 ghost use Rattle.sp_core.specs.States.{entry_of};
 ghost use Rattle.sp_core.specs.Values.{World, value_in};
-ghost use Rattle.sp_driver.specs.PlainForm.{ArePlain, ArePlainChanges, HoldsIntegers, IsPlainChange, IsPlainInvocation};
+ghost use Rattle.sp_driver.specs.PlainForm.{ArePlain, ArePlainlyChanged, plain_machine, ArePlainChanges, HoldsIntegers, IsPlainChange, IsPlainInvocation};
 ghost use Rattle.sp_driver.specs.PlainWork.{new_value, target_of, written};
 
 use crate::small::evaluate::{evaluate, look_at, place};
@@ -66,5 +66,58 @@ fn write(state: &mut State, effects: &[Effect], values: &[Value])
     {
         state.put(&place(target(effect)), *value);
         write(state, effects, values);
+    }
+}
+
+/// Makes the changes.
+///
+/// # Errors
+/// `Memory`; the entries are then as before.
+fn change(
+    alloc: Global,
+    functions: &[Function],
+    state: &mut State,
+    effects: &[Effect],
+) -> Result<(), Memory>
+    requires plain { ArePlainChanges functions.now effects.now }
+    requires integers { HoldsIntegers (entry_of state.old.entries) }
+    requires room { length state.old.entries + 64 ≤ 1000000 }
+    ensures changed { OnOk result (ArePlainlyChanged functions.now effects.now (entry_of state.old.entries) (entry_of state.new.entries)) }
+    ensures integers { HoldsIntegers (entry_of state.new.entries) }
+    ensures refused { OnErr result (state.new.entries ≡ state.old.entries) }
+    ensures grown { length state.new.entries ≤ length state.old.entries + 64 }
+{
+    let values = values(alloc, functions, state, effects)?;
+    state.reserve(effects.len() as u64)?;
+    write(state, effects, &values);
+    Ok(())
+}
+
+/// One step of the machine: what the invocation answers, and its changes.
+///
+/// # Errors
+/// `Memory`; the entries are then as before.
+pub fn step(
+    alloc: Global,
+    functions: &[Function],
+    state: &mut State,
+    i: &Invocation,
+) -> Result<Answer, Memory>
+    requires plain { ArePlain functions.now }
+    requires invocation { IsPlainInvocation functions.now i.now }
+    requires integers { HoldsIntegers (entry_of state.old.entries) }
+    requires room { length state.old.entries + 64 ≤ 1000000 }
+    ensures step { IfOk result (λ answer. (w : World) → Step (plain_machine w functions.now) (entry_of state.old.entries) i.now answer (entry_of state.new.entries)) }
+    ensures integers { HoldsIntegers (entry_of state.new.entries) }
+    ensures refused { OnErr result (state.new.entries ≡ state.old.entries) }
+    ensures grown { length state.new.entries ≤ length state.old.entries + 64 }
+{
+    match &functions[i.fun as usize].kind {
+        Kind::Primitive(_, _) => Ok(Answer::Value(look_at(functions, state, i.fun))),
+        Kind::Operation(effects) => {
+            change(alloc, functions, state, effects.as_slice())?;
+            Ok(Answer::Done)
+        }
+        _ => unreachable!(),
     }
 }

@@ -1,9 +1,12 @@
 pub mod Early
 pub mod Lines
 pub mod Meant
+pub mod PlainForm
+pub mod PlainWork
 pub mod Report
 pub mod Run
 pub mod RunCommand
+pub mod SmallCore
 pub mod SmallFronts
 pub mod SmallRules
 pub mod SmallTexts

@@ -1,11 +1,14 @@
 //! Texts of a small form, and the run of their script.
 
 pub mod fault;
+mod evaluate;
+mod functions;
 mod instance;
 mod interface;
 mod module;
 mod rules;
 mod script;
+mod step;
 mod subject;
 pub mod texts;
 mod tokens;

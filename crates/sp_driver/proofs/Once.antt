@@ -155,7 +155,9 @@ module _ (files : Files) where
 -- ---- commands
 
 answered_once : (x : System) (script : SmallScript) → IsOnce (AnsweredReport x script)
-answered_once x script a b s t p q = absurd p
+answered_once x script a b s t p q =
+    let same : p.0 ≡ q.0 = (same_run (small_machine x.interface.tree x.module.tree) (invocations_of x.module.tree script) initial_state p.0 q.0 p.1.0 q.1.0 p.1.1 q.1.1).0 in
+    (p.2.0 ∙ ap (run_text x.interface.tree.name script.calls) same ∙ sym q.2.0, p.2.1 ∙ sym q.2.1)
 
 judged_once : (interface script : List ℕ) (x : System) (calls : Reading SmallScript) → IsOnce (JudgedReport interface script x calls)
 judged_once interface script x calls = demand_once _ _ _ (says_once _ _) (demand_once _ _ _ (says_once _ _) (answered_once x calls.tree))

@@ -6,6 +6,7 @@ pub mod PlainWork
 pub mod Report
 pub mod Run
 pub mod RunCommand
+pub mod RunLines
 pub mod SmallCore
 pub mod SmallFronts
 pub mod SmallRules

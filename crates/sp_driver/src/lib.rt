@@ -8,6 +8,7 @@ mod lines;
 mod load;
 mod read;
 mod report;
+mod run_lines;
 mod run_report;
 pub mod small;
 mod status;

@@ -1,6 +1,6 @@
 -- An expression has one value over two readings that agree at its references.
-use Rattle.std.proofs.Common.{◌≡◌, refl, sym, ◌∙◌, ap, subst, arith, ℕ, zero, suc, ◌+◌, ◌<◌, Bool, true, false, ◌&&◌, ◌||◌, not, List, [], ◌∷◌, ◌++◌, take, length, Option, Some, None}
-use Rattle.std.specs.Prelude.{if◌then◌else◌, slice_get}
+use Rattle.std.proofs.Common.{◌≡◌, refl, ◌∙◌, ap, ℕ, Bool, true, false, ◌&&◌, ◌||◌, not, List, [], ◌∷◌, ◌++◌, take}
+use Rattle.std.specs.Prelude.{if◌then◌else◌}
 use Rattle.std.specs.List.{list_all, All, Contains}
 use Rattle.std.proofs.lemmas.List.Elements.{All-head, All-tail, All-contains_itself, All-weaker}
 use Rattle.sp_values.specs.declared.value.Value.{Value}
@@ -9,7 +9,7 @@ use Rattle.sp_values.specs.declared.value.Op.{Op}
 use Rattle.sp_values.specs.declared.value.Op.TheVariants as op
 use Rattle.sp_values.specs.Domains.{proper_values}
 use Rattle.sp_core.specs.Tree.{Tree, Trees, Const, Var, Not, Two, If, Param, Look, Every, New, none, more}
-use Rattle.sp_core.specs.Values.{World, Reads, is_true, two, nth, value_of, values_of}
+use Rattle.sp_core.specs.Values.{World, Reads, is_true, two, value_of, values_of}
 use Rattle.sp_core.specs.Measures.{LooksAt, LookAt, Nothing}
 
 -- whether the right side of an operator matters, by the left one

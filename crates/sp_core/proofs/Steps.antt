@@ -1,7 +1,6 @@
 -- A step, and a run, has one outcome; runs compose.
 use Rattle.std.proofs.Common.{◌≡◌, refl, sym, ◌∙◌, ap, subst, ℕ, List, [], ◌∷◌, ◌++◌, Option, Some, None}
-use Rattle.std.specs.Prelude.{slice_get, position}
-use Rattle.std.specs.List.{All}
+use Rattle.std.specs.Prelude.{slice_get}
 use Rattle.sp_values.specs.declared.value.Value.{Value}
 use Rattle.sp_values.specs.declared.place.Invocation.{Invocation}
 use Rattle.sp_core.specs.declared.function.Function.{Function}
@@ -11,6 +10,7 @@ use Rattle.sp_core.specs.declared.function.Answer.{Answer}
 use Rattle.sp_core.specs.declared.function.Answer.TheVariants as answer
 use Rattle.sp_core.specs.Effects.{GuardedResult, changes_in, effect_trees, results_in}
 use Rattle.sp_core.specs.Machine.{Answers, AnswersBy, AnswersPlainly, IsResult, Machine, Moves, Run, Step, StepOf, first_exception, value_at}
+use Rattle.sp_core.specs.Laws.{AreRuns}
 use Rattle.sp_core.specs.Values.{Store}
 use Rattle.sp_core.proofs.Unique.{changes_one}
 
@@ -70,12 +70,6 @@ run_append m [] js s t u [] bs h k = subst (λ x. Run m x js bs u) h k
 run_append m [] js s t u (a ∷ as') bs h k = absurd h
 run_append m (i ∷ is') js s t u [] bs h k = absurd h
 run_append m (i ∷ is') js s t u (a ∷ as') bs h k = (h.0, h.1, run_append m is' js h.0 t u as' bs h.2 k)
-
--- the parts of a run of two lists
-pub record AreRuns (m : Machine) (s : Store) (is' js : List Invocation) (cs : List Answer) (u : Store) (as' bs : List Answer) (t : Store) : Type 0 where
-  pub answers : cs ≡ as' ++ bs
-  pub first : Run m s is' as' t
-  pub second : Run m t js bs u
 
 -- a run of two lists is a run of the one and then a run of the other
 pub run_split : (m : Machine) (is' js : List Invocation) (s u : Store) (cs : List Answer) → Run m s (is' ++ js) cs u → (as' : List Answer) × (bs : List Answer) × (t : Store) × AreRuns m s is' js cs u as' bs t

@@ -1,8 +1,7 @@
 -- A well-typed expression has a value of its type.
-use Rattle.std.proofs.Common.{◌≡◌, refl, sym, ◌∙◌, ap, subst, arith, ℕ, zero, suc, ◌+◌, ◌<◌, Bool, true, false, ◌&&◌, ◌||◌, ◌==◌, List, [], ◌∷◌, length, Option, Some, None, nat_lt, ℤ, ◌+ℤ◌, ◌-ℤ◌, ◌*ℤ◌}
+use Rattle.std.proofs.Common.{◌≡◌, refl, sym, ◌∙◌, ap, subst, arith, ℕ, zero, suc, ◌<◌, Bool, true, false, ◌&&◌, ◌||◌, ◌==◌, List, [], ◌∷◌, length, Option, Some, None, nat_lt, ℤ, ◌+ℤ◌, ◌-ℤ◌, ◌*ℤ◌}
 use Rattle.std.specs.Prelude.{if◌then◌else◌, slice_get, slice_index_or, IsTrue, unwrap_or}
 use Rattle.std.specs.List.{All}
-use Rattle.std.specs.Bool.{Decides}
 use Rattle.std.proofs.lemmas.Bool.Decides.{Decides-eqb, Decides-ltb}
 use Rattle.std.proofs.lemmas.List.Elements.{All-head, All-tail}
 use Rattle.std.proofs.lemmas.Option.{slice_get_within}
@@ -13,36 +12,35 @@ use Rattle.sp_values.specs.declared.value.Ty.TheVariants as ty
 use Rattle.sp_values.specs.declared.value.Op.{Op}
 use Rattle.sp_values.specs.declared.value.Op.TheVariants as op
 use Rattle.sp_values.specs.Arithmetic.{in_range, number, on_numbers}
-use Rattle.sp_values.specs.Domains.{Sizes, are_values, has_unknown, is_proper, is_unknown, is_value}
+use Rattle.sp_values.specs.Domains.{Sizes, are_values, is_value}
 use Rattle.sp_values.specs.Identity.{same_values}
-use Rattle.sp_lattice.specs.Order.{IsLatticeOrder, join, meet}
+use Rattle.sp_lattice.specs.Order.{join, meet}
 use Rattle.sp_core.specs.declared.expr.Expr.{Expr}
 use Rattle.sp_core.specs.declared.function.Function.{Function}
 use Rattle.sp_core.specs.declared.function.Kind.{Kind}
 use Rattle.sp_core.specs.declared.function.Kind.TheVariants as kind
 use Rattle.sp_core.specs.declared.function.Param.{Param as Parameter}
 use Rattle.sp_core.specs.declared.function.TypeInfo.{TypeInfo}
-use Rattle.sp_core.specs.declared.instance.Table.{Table}
-use Rattle.sp_core.specs.Instances.{Filling, IsInstance, IsTable, machine_of, row_value, sizes_of, table_value, world_of}
-use Rattle.sp_core.specs.Machine.{IsEntry, IsState, Machine, types_of}
-use Rattle.sp_core.specs.Measures.{LookAt, LooksAt, Anything, Nothing}
+use Rattle.sp_core.specs.Instances.{Filling, IsInstance, machine_of, row_value, sizes_of, table_value, world_of}
+use Rattle.sp_core.specs.Machine.{IsState, types_of}
+use Rattle.sp_core.specs.Measures.{LookAt, LooksAt, Anything, Nothing, rank, rank_by, rank_of}
 use Rattle.sp_core.specs.Parts.{Parts, signature}
 use Rattle.sp_core.specs.Tree.{Tree, Trees, Const, Var, Not, Two, If, Param, Look, Every, New, none, more, tree}
-use Rattle.sp_core.specs.Typing.{HasType, HaveTypes, IsTyped, Signature, declared_members, is_constant, primitive_type, read_type}
-use Rattle.sp_core.specs.Values.{Reads, Store, World, level_number, is_true, look, nothing, nth, reads_by, two, value_of, values_of}
-use Rattle.sp_core.specs.WellFormed.{IsEarlier, IsFunction, IsKind, IsWellFormed}
-use Rattle.sp_core.proofs.Looks.{AreOrdered, IsOrderedAs, look_is, rank, rank_below, rank_by, rank_of}
+use Rattle.sp_core.specs.Typing.{HasType, HaveTypes, IsTyped, declared_members, is_constant, primitive_type, read_type}
+use Rattle.sp_core.specs.Values.{Reads, Store, level_number, is_true, look, nothing, nth, reads_by, two, value_of, values_of}
+use Rattle.sp_core.specs.WellFormed.{IsEarlier, IsKind, IsWellFormed}
+use Rattle.sp_core.proofs.Looks.{AreOrdered, IsOrderedAs, look_is, rank_below}
 
-and_true : (a b : Bool) → (a && b) ≡ true → (a ≡ true) × (b ≡ true)
+pub and_true : (a b : Bool) → (a && b) ≡ true → (a ≡ true) × (b ≡ true)
 and_true true true e = (refl, refl)
 and_true true false e = (refl, e)
 and_true false b e = cc
 
-both_true : (a b : Bool) → a ≡ true → b ≡ true → (a && b) ≡ true
+pub both_true : (a b : Bool) → a ≡ true → b ≡ true → (a && b) ≡ true
 both_true true b p q = q
 both_true false b p q = p
 
-or_left : (a b : Bool) → a ≡ true → (a || b) ≡ true
+pub or_left : (a b : Bool) → a ≡ true → (a || b) ≡ true
 or_left true b e = refl
 or_left false b e = cc
 
@@ -77,7 +75,7 @@ level_below sz (value.Int b) e = cc
 level_below sz (value.Member k b) e = cc
 level_below sz value.Unknown e = cc
 
-level_typed : (sz : Sizes) (l : ℕ) → l < sz.levels → is_value sz ty.Level (value.Level l) ≡ true
+pub level_typed : (sz : Sizes) (l : ℕ) → l < sz.levels → is_value sz ty.Level (value.Level l) ≡ true
 level_typed sz l h = or_left (nat_lt l sz.levels) (false && false) ((Decides-ltb l sz.levels).1 h)
 
 variable_typed : (sz : Sizes) (xs : List Ty) (x : List Value) (k : ℕ) (t : Ty) → are_values sz xs x ≡ true → slice_get xs k ≡ Some t → is_value sz t (nth x k) ≡ true
@@ -99,7 +97,7 @@ row_typed : (sz : Sizes) (t : Ty) (rows : List (List Value × Value)) (other : V
 row_typed sz t [] other v a o = o
 row_typed sz t (r ∷ rows) other v a o = if_typed sz (same_values r.0 v) t r.1 (row_value rows other v) (All-head (λ r. IsTrue (is_value sz t r.1)) r rows a) (row_typed sz t rows other v (All-tail (λ r. IsTrue (is_value sz t r.1)) r rows a) o)
 
-member_typed : (sz : Sizes) (k m : ℕ) → m < sz.members k → is_value sz (ty.Member k) (value.Member k m) ≡ true
+pub member_typed : (sz : Sizes) (k m : ℕ) → m < sz.members k → is_value sz (ty.Member k) (value.Member k m) ≡ true
 member_typed sz k m l = or_left ((k == k) && nat_lt m (sz.members k)) (true && false) (both_true (k == k) (nat_lt m (sz.members k)) ((Decides-eqb k k).1 refl) ((Decides-ltb m (sz.members k)).1 l))
 
 -- an enumeration has as many members in the instance as it declares
@@ -111,6 +109,7 @@ members_fit p i inst k m (Some info) e l = by info.members refl l
     size_at [] j n h = cc
     size_at (x ∷ xs) zero n h = cc
     size_at (x ∷ xs) (suc j) n h = size_at xs j n h
+
     by : (o : Option (List (List ℕ))) → info.members ≡ o → m < declared_members (Some (record info { members = o })) → m < slice_index_or i.sizes k 0
     by None f h = absurd (omega (arith, h))
     by (Some names) f h = subst (λ n. m < n) (sym (size_at i.sizes k (length names) (inst.enumerations k info names e f))) h
@@ -158,6 +157,16 @@ primitive_read (kind.Derived u e) t h = cc
 primitive_read (kind.Operation es) t h = cc
 primitive_read (kind.Both u es) t h = cc
 
+ordered_by : (p : Parts) (g : ℕ) (f : Function) (k : Kind) → IsKind (signature p) (types_of f.formals) g k → IsOrderedAs p.functions g k
+ordered_by p g f (kind.Primitive t e) h = tt
+ordered_by p g f (kind.Derived t e) h = h.reads_earlier
+ordered_by p g f (kind.Operation es) h = tt
+ordered_by p g f (kind.Both t es) h = tt
+
+-- the derivations of a well-formed specification are ordered
+pub ordered_functions : (p : Parts) → IsWellFormed p → AreOrdered p.functions
+ordered_functions p wf = record { each = λ g f e. ordered_by p g f f.kind (wf.functions g f e).kind }
+
 module _ (p : Parts) (i : Filling) (wf : IsWellFormed p) (inst : IsInstance p i) where
   two_typed : (o : Op) (u t : Ty) (a b : Value) → IsTyped o u t → is_value (sizes_of p i) u a ≡ true → is_value (sizes_of p i) u b ≡ true → is_value (sizes_of p i) t (two (world_of p i) o a b) ≡ true
   two_typed op.And u t a b h x y = rw h.1 refl
@@ -200,16 +209,6 @@ module _ (p : Parts) (i : Filling) (wf : IsWellFormed p) (inst : IsInstance p i)
   nothing_typed : AreTyped p i Nothing nothing
   nothing_typed g f t v ok e k a = absurd ok
 
-  ordered_by : (g : ℕ) (f : Function) (k : Kind) → IsKind (signature p) (types_of f.formals) g k → IsOrderedAs p.functions g k
-  ordered_by g f (kind.Primitive t e) h = tt
-  ordered_by g f (kind.Derived t e) h = h.reads_earlier
-  ordered_by g f (kind.Operation es) h = tt
-  ordered_by g f (kind.Both t es) h = tt
-
-  -- the derivations of a well-formed specification are ordered
-  pub ordered : AreOrdered p.functions
-  ordered = record { each = λ g f e. ordered_by g f f.kind (wf.functions g f e).kind }
-
   module _ (s : Store) (state : IsState (machine_of p i) s) where
     entry_typed : (g : ℕ) (f : Function) (t : Ty) (init : Expr) (v : List Value) (o : Option Value) → s g v ≡ o → slice_get p.functions g ≡ Some f → f.kind ≡ kind.Primitive t init → is_value (sizes_of p i) t (value_of (world_of p i) nothing nothing v (tree init)) ≡ true → is_value (sizes_of p i) t (unwrap_or o (value_of (world_of p i) nothing nothing v (tree init))) ≡ true
     entry_typed g f t init v None e there kind_is h = h
@@ -238,9 +237,14 @@ module _ (p : Parts) (i : Filling) (wf : IsWellFormed p) (inst : IsInstance p i)
     looks_typed zero g f t v ok e k a = absurd (omega (arith, ok))
     looks_typed (suc n) g f t v ok e k a =
         let l : rank_by g f.kind < suc n = subst (λ o. rank_of g o < suc n) e ok in
-        subst (λ z. is_value (sizes_of p i) t z ≡ true) (sym (look_is (world_of p i) p.functions ordered s g v ∙ ap (λ o. reads_by (world_of p i) s (look (world_of p i) p.functions s) o g v) e))
+        subst (λ z. is_value (sizes_of p i) t z ≡ true) (sym (look_is (world_of p i) p.functions (ordered_functions p wf) s g v ∙ ap (λ o. reads_by (world_of p i) s (look (world_of p i) p.functions s) o g v) e))
         (by_kind n g f t v f.kind refl e l k a (wf.functions g f e).kind (looks_typed n))
 
     -- what a state gives at a V-function, at values of its formals' types, is of its type
     pub look_typed : AreTyped p i Anything (look (world_of p i) p.functions s)
     look_typed g f t v ok e k a = looks_typed (suc (rank p.functions g)) g f t v (omega arith) e k a
+
+-- a well-typed expression has a value of its type
+pub typed : (p : Parts) (i : Filling) → IsWellFormed p → IsInstance p i → (s : Store) → IsState (machine_of p i) s → (xs : List Ty) (x : List Value) (e : Tree) (t : Ty) → IsTrue (are_values (sizes_of p i) xs x) → HasType (signature p) xs e t → LooksAt Anything Nothing e → IsTrue (is_value (sizes_of p i) t (value_of (world_of p i) (look (world_of p i) p.functions s) (look (world_of p i) p.functions s) x e))
+typed p i wf inst s state xs x e t a h ok =
+    value_typed p i wf inst (look (world_of p i) p.functions s) (look (world_of p i) p.functions s) Anything Nothing (look_typed p i wf inst s state) (λ g f u v n. absurd n) e xs x t a h ok

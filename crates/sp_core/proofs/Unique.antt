@@ -1,6 +1,6 @@
 -- A step has one outcome.
-use Rattle.std.proofs.Common.{◌≡◌, refl, sym, ◌∙◌, ap, subst, arith, get_or, ℕ, zero, suc, ◌+◌, ◌<◌, Bool, true, false, ◌==◌, List, [], ◌∷◌, ◌++◌, map, length, Option, Some, None, ◌⊎◌, inl, inr, ⊎_elim}
-use Rattle.std.specs.Prelude.{IsTrue, slice_get}
+use Rattle.std.proofs.Common.{◌≡◌, refl, sym, ◌∙◌, subst, arith, get_or, ℕ, zero, suc, ◌<◌, Bool, true, false, ◌==◌, List, [], ◌∷◌, ◌++◌, length, ◌⊎◌, inl, inr, ⊎_elim}
+use Rattle.std.specs.Prelude.{IsTrue}
 use Rattle.std.specs.List.{All, Contains, list_all}
 use Rattle.std.specs.Bool.{Decides}
 use mathlib.Core.Path.{fun_ext}
@@ -15,7 +15,7 @@ use Rattle.sp_values.specs.Domains.{proper_values}
 use Rattle.sp_core.specs.Tree.{Tree}
 use Rattle.sp_core.specs.Effects.{GuardedChange}
 use Rattle.sp_core.specs.Values.{World, Store, is_true}
-use Rattle.sp_core.specs.Machine.{AreBindings, Changes, IsTrueChange, Machine, given, target, value_at}
+use Rattle.sp_core.specs.Machine.{AreBindings, Changes, IsTrueChange, Machine, target, value_at}
 
 abbrev Settled : Type 0 → Type 0
 Settled P = P ⊎ (P → ⊥)

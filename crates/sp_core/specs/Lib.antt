@@ -9,3 +9,4 @@ pub mod Measures
 pub mod Parts
 pub mod WellFormed
 pub mod Instances
+pub mod Laws

@@ -32,6 +32,9 @@ no_other s (inr e) t is m l = l (sym e ∙ is)
 no_malformed : (s : Status) → IsLoadStatus s → s ≡ status.Malformed → ⊥
 no_malformed s h is = no_other s h status.Malformed is (λ e. cc) (λ e. cc)
 
+no_ok : (s : Status) → IsLoadStatus s → s ≡ status.Ok → ⊥
+no_ok s h is = no_other s h status.Ok is (λ e. cc) (λ e. cc)
+
 no_words : (s : Status) → IsLoadStatus s → s ≡ status.Words → ⊥
 no_words s h is = no_other s h status.Words is (λ e. cc) (λ e. cc)
 
@@ -84,7 +87,7 @@ module _ (files : Files) (a : List ℕ) (s : Status) (load : IsLoadStatus s) whe
   judged_meets interface script x calls (inl p) = no_malformed s load p.1.1
   judged_meets interface script x calls (inr p) = elim (p.1) [
     | inl q ↦ no_malformed s load q.1.1
-    | inr q ↦ absurd q.1
+    | inr q ↦ no_ok s load q.1.2.1
   ]
 
   work_meets : (interface instance script : List ℕ) (x : System) → WorkReport interface instance script x files a s → Meets (WorkComesTo instance script files) files a s

@@ -1,7 +1,8 @@
 -- That writing the new values of plain changes is a step of the machine.
-use Rattle.std.proofs.Common.{◌≡◌, ◌≢◌, ℕ, suc, ◌<◌, refl, sym, ◌∙◌, ap, subst, arith, Bool, true, false, List, [], ◌∷◌, ◌++◌, map, length, get_or, Option, Some, None, inl, inr}
+use Rattle.std.proofs.Common.{◌≡◌, ◌≢◌, ℕ, suc, ◌+◌, ◌<◌, refl, sym, ◌∙◌, ap, subst, arith, Bool, true, false, List, [], ◌∷◌, ◌++◌, map, length, get_or, take, Option, Some, None, inl, inr}
 use Rattle.std.specs.Prelude.{if◌then◌else◌, slice_get, position}
 use Rattle.std.specs.List.{All, AllPairs, Contains}
+use Rattle.std.proofs.lemmas.List.{take_more}
 use Rattle.std.proofs.lemmas.Option.{slice_get_read}
 use Rattle.std.proofs.lemmas.List.Elements.{All-head, All-tail, All-nil}
 use Rattle.sp_values.specs.declared.value.Value.{Value}
@@ -16,13 +17,14 @@ use Rattle.sp_core.specs.declared.function.Answer.{Answer as AnAnswer}
 use Rattle.sp_core.specs.declared.function.Answer.TheVariants as answer
 use Rattle.sp_core.specs.declared.expr.Expr.{Expr}
 use Rattle.sp_core.specs.Effects.{Change, Answer, If, Every, EffectTree, GuardedChange, changes, changes_in, effect_tree, effect_trees, effect_trees_of}
-use Rattle.sp_core.specs.Machine.{AnswersBy, AnswersPlainly, AreBindings, Changes, IsTrueChange, Machine, Step, given, target, value_at}
+use Rattle.sp_core.specs.Machine.{AnswersBy, AnswersPlainly, AreBindings, Changes, IsTrueChange, Machine, Run, Step, given, target, value_at}
 use Rattle.sp_core.specs.States.{put_at}
 use Rattle.sp_core.specs.Tree.{none, more, tree}
 use Rattle.sp_core.specs.Values.{Store, World, is_true, look, value_in}
+use Rattle.sp_core.proofs.Steps.{run_append}
 use Rattle.sp_core.proofs.StateLemmas.{hit, hit-Decides}
 use Rattle.sp_core.proofs.Unique.{Contains-cons, Contains-first, Contains-later, Contains-nil}
-use Rattle.sp_driver.specs.PlainForm.{ArePlainChanges, ArePlainlyChanged, HoldsIntegers, IsPlainChange, IsPlainFunction, IsPlainKind, IsStored, plain_machine}
+use Rattle.sp_driver.specs.PlainForm.{ArePlainChanges, ArePlainlyChanged, HoldsIntegers, IsPlainChange, IsPlainFunction, IsPlainKind, IsRunUntil, IsStored, plain_machine}
 use Rattle.sp_driver.specs.PlainWork.{new_value, target_of, tree_target, tree_value, written}
 
 -- the change of a plain effect
@@ -190,3 +192,14 @@ stored_at fs g f t e there plain is =
 -- a plain operation's changes are plain
 pub plain_at : (fs : List Function) (f : Function) (es : List Effect) → IsPlainFunction fs f → f.kind ≡ kind.Operation es → ArePlainChanges fs es
 plain_at fs f es plain is = subst (IsPlainKind fs) is plain.kind
+
+-- a run of the first invocations, and a step of the next one
+pub run_more : (fs : List Function) (s : Store) (list : List Invocation) (at : ℕ) (i : Invocation) (answers : List AnAnswer) (t : Store) (a : AnAnswer) (u : Store) → at < length list → i ≡ get_or list at i
+    → IsRunUntil fs s list at answers t → ((w : World) → Step (plain_machine w fs) t i a u) → IsRunUntil fs s list (at + 1) (answers ++ a ∷ []) u
+run_more fs s list at i answers t a u within is run step = record {
+  within = omega arith;
+  run = λ w.
+      let front : take (at + 1) list ≡ take at list ++ i ∷ [] = take_more list at i within ∙ ap (λ x. take at list ++ x ∷ []) (sym is) in
+      subst (λ (is' : List Invocation). Run (plain_machine w fs) s is' (answers ++ a ∷ []) u) (sym front)
+      (run_append (plain_machine w fs) (take at list) (i ∷ []) s t u answers (a ∷ []) (run.run w) (u, step w, refl));
+}

@@ -1,6 +1,7 @@
 //! Texts of a small form, and the run of their script.
 
 pub mod fault;
+mod animate;
 mod evaluate;
 mod functions;
 mod instance;

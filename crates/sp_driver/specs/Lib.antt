@@ -4,3 +4,4 @@ pub mod SmallRules
 pub mod SmallCore
 pub mod PlainForm
 pub mod PlainWork
+pub mod SmallRun

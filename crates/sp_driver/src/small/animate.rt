@@ -35,6 +35,7 @@ pub fn animate(
     requires integers { HoldsIntegers (entry_of state.old.entries) }
     requires room { length state.old.entries + 64 * length list.now ≤ 1000000 }
     ensures run { IfOk result (λ answers. (w : World) → Run (plain_machine w functions.now) (entry_of state.old.entries) list.now answers.items (entry_of state.new.entries)) }
+    ensures count { IfOk result (λ answers. length answers.items ≡ length list.now) }
     ensures refused { IfErr result (λ fault. IsRunUntil functions.now (entry_of state.old.entries) list.now fault.at fault.answers (entry_of state.new.entries)) }
 {
     let Ok(mut answers) = Vec::with_capacity(alloc, list.len()) else {

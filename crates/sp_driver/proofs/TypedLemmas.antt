@@ -1,7 +1,7 @@
 -- That the core functions of a sound module are plain, and the invocations of a sound script invocations of them.
-use Rattle.std.proofs.Common.{rules, ◌≡◌, ◌≢◌, ℕ, zero, suc, ◌+◌, ◌<◌, ◌≤◌, ◌⊎◌, refl, sym, ◌∙◌, ap, subst, arith, Bool, true, false, cond, lt-ltb, nat_lt, List, [], ◌∷◌, ◌++◌, map, length, get_or, Option, Some, None, inl, inr}
+use Rattle.std.proofs.Common.{rules, ◌≡◌, ◌≢◌, ℕ, zero, suc, ◌<◌, ◌≤◌, ◌⊎◌, refl, sym, ◌∙◌, ap, subst, arith, Bool, true, false, cond, lt-ltb, nat_lt, List, [], ◌∷◌, ◌++◌, map, length, get_or, Option, Some, None, inl, inr}
 use Rattle.std.proofs.lemmas.List.{length-map}
-use Rattle.std.specs.Prelude.{position, option_map, slice_get, unwrap_or}
+use Rattle.std.specs.Prelude.{option_map, slice_get, unwrap_or}
 use Rattle.std.specs.Str.{bytes_eq}
 use Rattle.std.specs.List.{All, Any, AllPairs, position_or_len}
 use Rattle.std.proofs.lemmas.Bool.{cases_lt}
@@ -12,8 +12,14 @@ use Rattle.std.proofs.lemmas.Option.{slice_get-map, slice_get_read}
 use Rattle.std.proofs.lemmas.Slice.Eq.{bytes_eq-Decides}
 use Rattle.sp_values.specs.declared.value.Value.TheVariants as value
 use Rattle.sp_values.specs.declared.value.Op.TheVariants as op
+use Rattle.sp_values.specs.declared.place.Invocation.{Invocation}
+use Rattle.sp_core.specs.declared.state.Entry.{Entry}
+use Rattle.sp_core.specs.declared.function.Answer.{Answer}
+use Rattle.sp_core.specs.declared.function.Function.{Function}
+use Rattle.sp_core.specs.Machine.{Run, initial_state}
+use Rattle.sp_core.specs.States.{entry_of}
+use Rattle.sp_core.specs.Values.{Store, World}
 use Rattle.sp_core.specs.declared.expr.Expr.{Expr}
-use Rattle.sp_core.specs.declared.function.Effect.{Effect}
 use Rattle.sp_core.specs.declared.function.Effect.TheVariants as effect
 use Rattle.sp_core.specs.declared.function.Effect.TheFolds.{the_lemmas}
 use Rattle.sp_core.specs.Effects.{Change, GuardedChange, effect_tree}
@@ -25,7 +31,8 @@ use Rattle.sp_driver.specs.declared.small.texts.SmallChange.{SmallChange}
 use Rattle.sp_driver.specs.declared.small.texts.SmallOperand.{SmallOperand}
 use Rattle.sp_driver.specs.declared.small.texts.SmallOperand.TheVariants as operand
 use Rattle.sp_driver.specs.declared.small.texts.SmallLiteral.{SmallLiteral}
-use Rattle.sp_driver.specs.PlainForm.{ArePlain, ArePlainChanges, IsPlainChange, IsPlainFunction, IsPlainInvocation, IsPlainKind, IsPlainTerm, IsStored}
+use Rattle.sp_driver.specs.PlainForm.{ArePlain, ArePlainChanges, IsPlainChange, IsPlainFunction, IsPlainInvocation, IsPlainKind, IsPlainTerm, IsStored, plain_machine}
+use Rattle.sp_driver.specs.SmallRun.{RunsThrough}
 use Rattle.sp_driver.specs.PlainWork.{tree_target}
 use Rattle.sp_driver.proofs.PlainSteps.{plain_changes, simple, simple_changes}
 use Rattle.sp_driver.proofs.PlainLemmas.{tree-Const, tree-Look, tree-Two}
@@ -185,3 +192,11 @@ typed_invocations fs names h =
     All-map (IsPlainInvocation (functions_of fs)) (invocation_of fs) names
     (All-weaker (IsFunction fs) (λ n. IsPlainInvocation (functions_of fs) (invocation_of fs n))
     (λ n f. record { function = omega (arith, (number_found fs n f).within, length-map fs (function_of fs)); arguments = refl }) names h)
+
+-- a run of the core functions from a state without entries is one of the functions by name from the initial state
+pub runs_through : (fs : List SmallFunction) (names : List (List ℕ)) (answers : List Answer) (F : List Function) (list : List Invocation) (es : List Entry) (end : Store) → F ≡ functions_of fs → list ≡ map (invocation_of fs) names → es ≡ []
+    → ((w : World) → Run (plain_machine w F) (entry_of es) list answers end) → RunsThrough fs names answers
+runs_through fs names answers F list es end p q r run = (end, λ w.
+  subst (λ (F : List Function). Run (plain_machine w F) initial_state (map (invocation_of fs) names) answers end) p
+  (subst (λ (is' : List Invocation). Run (plain_machine w F) initial_state is' answers end) q
+  (subst (λ (es : List Entry). Run (plain_machine w F) (entry_of es) list answers end) r (run w))))

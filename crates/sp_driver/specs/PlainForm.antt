@@ -8,7 +8,6 @@ use Rattle.sp_values.specs.declared.value.Value.TheVariants as value
 use Rattle.sp_values.specs.declared.value.Op.TheVariants as op
 use Rattle.sp_values.specs.declared.place.Invocation.{Invocation}
 use Rattle.sp_values.specs.Arithmetic.{IsInteger}
-use Rattle.sp_core.specs.declared.expr.Expr.{Expr}
 use Rattle.sp_core.specs.declared.expr.Expr.TheVariants as expr
 use Rattle.sp_core.specs.declared.function.Effect.{Effect}
 use Rattle.sp_core.specs.declared.function.Answer.{Answer}

@@ -1,13 +1,15 @@
 -- The printed run of a script, for the report of `run` over small texts.
-use Rattle.std.specs.Prelude.{◌≡◌, ℕ, ◌+◌, List, [], ◌∷◌, ◌++◌, codes, length}
+use Rattle.std.specs.Prelude.{◌≡◌, ℕ, ◌+◌, List, [], ◌∷◌, ◌++◌, codes, length, map}
 use Rattle.std.specs.Fmt.{decimal, signed_decimal}
 use Rattle.sp_values.specs.declared.value.Value.{Value}
 use Rattle.sp_values.specs.declared.value.Value.TheVariants as value
 use Rattle.sp_core.specs.declared.function.Answer.{Answer}
 use Rattle.sp_core.specs.declared.function.Answer.TheVariants as answer
 use Rattle.sp_core.specs.Machine.{Run, initial_state}
-use Rattle.sp_core.specs.Values.{Store}
-use Rattle.sp_driver.specs.SmallCore.{invocations_of, small_machine}
+use Rattle.sp_core.specs.Values.{Store, World}
+use Rattle.sp_driver.specs.SmallCore.{functions_of, invocation_of, invocations_of, small_machine}
+use Rattle.sp_driver.specs.PlainForm.{plain_machine}
+use Rattle.sp_driver.specs.declared.small.texts.SmallFunction.{SmallFunction}
 use Rattle.sp_driver.specs.declared.small.texts.SmallInterface.{SmallInterface}
 use Rattle.sp_driver.specs.declared.small.texts.SmallModule.{SmallModule}
 use Rattle.sp_driver.specs.declared.small.texts.SmallScript.{SmallScript}
@@ -43,3 +45,7 @@ pub record IsPrintedRunOf (i : SmallInterface) (m : SmallModule) (s : SmallScrip
 
 abbrev pub IsPrintedRun : SmallInterface → SmallModule → SmallScript → List ℕ → Type 0
 IsPrintedRun i m s bytes = (answers : List Answer) × (end : Store) × IsPrintedRunOf i m s bytes answers end
+
+-- the functions of these names run from the initial state with these answers, whatever the lattice and the instance
+abbrev pub RunsThrough : List SmallFunction → List (List ℕ) → List Answer → Type 0
+RunsThrough functions names answers = (end : Store) × ((w : World) → Run (plain_machine w (functions_of functions)) initial_state (map (invocation_of functions) names) answers end)

@@ -1,4 +1,4 @@
-use Rattle.std.proofs.Common.{◌≡◌, ◌+◌, List, sym, ◌∙◌, ap, subst, arith, get_or}
+use Rattle.std.proofs.Common.{◌+◌, List, sym, ◌∙◌, ap, subst, arith}
 use Rattle.sp_core.specs.declared.function.Answer.{Answer}
 use Rattle.sp_core.specs.States.{entry_of}
 use Rattle.sp_driver.specs.PlainForm.{IsRunUntil}

@@ -87,7 +87,7 @@ module _ (w : World) (fs : List Function) (s : Store) where
     | inl p ↦
         let now : Store = put_at (target_of e) [] (new_value w fs s e) u in
         let at : written (map target_of es) (map (new_value w fs s) es) now (target_of e) [] ≡ Some (new_value w fs s e) =
-            stays es now (target_of e) [] (λ b k f q. later e es apart b k f) ∙ put_here (target_of e) [] (new_value w fs s e) u in
+        stays es now (target_of e) [] (λ b k f q. later e es apart b k f) ∙ put_here (target_of e) [] (new_value w fs s e) u in
         subst (λ (b : GuardedChange). written (map target_of es) (map (new_value w fs s) es) now b.fun [] ≡ Some (value_in w fs s [] b.value)) p at
     | inr q ↦ becomes es (put_at (target_of e) [] (new_value w fs s e) u) (rest_apart e es apart) a q
   ]
@@ -145,29 +145,34 @@ written_integers (g ∷ gs) (x ∷ xs) s all holds = written_integers gs xs (put
 -- an operation without exceptions steps to the state that its changes make, and answers Done
 pub step_done : (m : Machine) (s : Store) (i : Invocation) (f : Function) (es : List Effect) (t : Store) → slice_get m.functions i.fun ≡ Some f → f.exceptions ≡ [] → f.kind ≡ kind.Operation es
     → Changes m s s i (changes_in (effect_trees_of (map effect_tree es))) t → Step m s i answer.Done t
-step_done m s i f es t there free is changed = (f, record {
-  function = there;
-  answers =
-      subst (λ (o : Option ℕ). AnswersBy m s i f o answer.Done) (ap (λ xs. position (λ e. is_true (value_at m s i.args (tree e.1))) xs) (sym free))
-      (subst (λ (k : Kind). AnswersPlainly m s i k answer.Done) (sym is) refl);
-  moves = subst (λ (k : Kind). Changes m s s i (changes_in (effect_trees k)) t) (sym is) changed;
-})
+step_done m s i f es t there free is changed = (
+  f,
+  record {
+    function = there;
+    answers =
+        subst (λ (o : Option ℕ). AnswersBy m s i f o answer.Done) (ap (λ xs. position (λ e. is_true (value_at m s i.args (tree e.1))) xs) (sym free))
+        (subst (λ (k : Kind). AnswersPlainly m s i k answer.Done) (sym is) refl);
+    moves = subst (λ (k : Kind). Changes m s s i (changes_in (effect_trees k)) t) (sym is) changed;
+  },
+)
 
 -- a V-function of the state without exceptions answers what the state gives, and changes nothing
 pub step_value : (m : Machine) (s : Store) (i : Invocation) (f : Function) (ty : Ty) (e : Expr) → slice_get m.functions i.fun ≡ Some f → f.exceptions ≡ [] → f.kind ≡ kind.Primitive ty e
     → Step m s i (answer.Value (look m.world m.functions s i.fun i.args)) s
 step_value m s i f ty e there free is =
-    let a : AnAnswer = answer.Value (look m.world m.functions s i.fun i.args) in
-    (f, record {
-      function = there;
-      answers =
-          subst (λ (o : Option ℕ). AnswersBy m s i f o a) (ap (λ xs. position (λ e. is_true (value_at m s i.args (tree e.1))) xs) (sym free))
-          (subst (λ (k : Kind). AnswersPlainly m s i k a) (sym is) refl);
-      moves = subst (λ (k : Kind). Changes m s s i (changes_in (effect_trees k)) s) (sym is) (record {
-        named = λ b cs c. absurd (Contains-nil b c.of);
-        others = λ g v n. refl;
-      });
-    })
+    let a : AnAnswer = answer.Value (look m.world m.functions s i.fun i.args) in (
+      f,
+      record {
+        function = there;
+        answers =
+            subst (λ (o : Option ℕ). AnswersBy m s i f o a) (ap (λ xs. position (λ e. is_true (value_at m s i.args (tree e.1))) xs) (sym free))
+            (subst (λ (k : Kind). AnswersPlainly m s i k a) (sym is) refl);
+        moves = subst (λ (k : Kind). Changes m s s i (changes_in (effect_trees k)) s) (sym is) (record {
+          named = λ b cs c. absurd (Contains-nil b c.of);
+          others = λ g v n. refl;
+        });
+      },
+    )
 
 -- the state in which new values were written is the one that the changes make
 pub plain_changed : (fs : List Function) (es : List Effect) → ArePlainChanges fs es → (s u t : Store) (vs : List Value) → ((w : World) → vs ≡ map (new_value w fs s) es) → u ≡ s

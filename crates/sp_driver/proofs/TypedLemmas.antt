@@ -120,12 +120,15 @@ module _ (fs : List SmallFunction) where
         let at = number_found fs n (k, f, l, e, p.0) in
         let same : number_of fs n ≡ k = one_index (number_of fs n) k f at.within l (at.named f ∙ sym p.0 ∙ ap (λ (f : SmallFunction). f.name) (sym e)) in
         let there : slice_get fs (number_of fs n) ≡ Some f = ap (slice_get fs) same ∙ slice_get_read fs (length fs) k f refl l (sym e) in
-        let v = value_body f.body p.1 in
-        (function_of fs f, value.Int (literal_number v.0), record {
-          function = slice_get-map (function_of fs) fs (number_of fs n) ∙ ap (option_map (function_of fs)) there;
-          kind = ap (kind_of fs) v.1;
-          integer = tt;
-        })
+        let v = value_body f.body p.1 in (
+          function_of fs f,
+          value.Int (literal_number v.0),
+          record {
+            function = slice_get-map (function_of fs) fs (number_of fs n) ∙ ap (option_map (function_of fs)) there;
+            kind = ap (kind_of fs) v.1;
+            integer = tt;
+          },
+        )
 
     plain_operand : (o : SmallOperand) → All (IsValueFunction fs) (operand_reads o) → IsPlainTerm (functions_of fs) (tree (operand_expr fs o))
     plain_operand (operand.Literal l) h = subst (IsPlainTerm (functions_of fs)) (sym (tree-Const (value.Int (literal_number l)))) tt
@@ -155,10 +158,10 @@ module _ (fs : List SmallFunction) where
         let front = simple (effect_tree (change_effect fs c)) in
         let R : GuardedChange → GuardedChange → Type 0 = λ a b. a.fun ≢ b.fun in
         let later : All (λ d. R front (simple (effect_tree (change_effect fs d)))) cs =
-            λ k d l same.
-            number_apart c.target (get_or cs k d).target (value_is c.target (All-head (IsSoundChange fs) c cs sound).target) (value_is (get_or cs k d).target (sound (suc k) d (omega (arith, l))).target)
-            (pairs 0 (suc k) d (omega arith) (omega (arith, l)))
-            (sym (target_is c) ∙ same ∙ target_is (get_or cs k d)) in
+        λ k d l same.
+        number_apart c.target (get_or cs k d).target (value_is c.target (All-head (IsSoundChange fs) c cs sound).target) (value_is (get_or cs k d).target (sound (suc k) d (omega (arith, l))).target)
+        (pairs 0 (suc k) d (omega arith) (omega (arith, l)))
+        (sym (target_is c) ∙ same ∙ target_is (get_or cs k d)) in
         AllPairs-cons R front (simple_changes (map (change_effect fs) cs))
         (All-map (R front) (λ e. simple (effect_tree e)) (map (change_effect fs) cs) (All-map (λ e. R front (simple (effect_tree e))) (change_effect fs) cs later))
         (apart_changes cs (All-tail (IsSoundChange fs) c cs sound) (λ i j d p q. pairs (suc i) (suc j) d (omega (arith, p)) (omega (arith, q))))
@@ -167,7 +170,7 @@ module _ (fs : List SmallFunction) where
     plain_effects cs h =
         let es = map (change_effect fs) cs in
         let each : All (λ e. IsPlainChange (functions_of fs) (effect_tree e)) es =
-            All-map (λ e. IsPlainChange (functions_of fs) (effect_tree e)) (change_effect fs) cs (All-weaker (IsSoundChange fs) (λ c. IsPlainChange (functions_of fs) (effect_tree (change_effect fs c))) plain_change cs h.sound) in
+        All-map (λ e. IsPlainChange (functions_of fs) (effect_tree e)) (change_effect fs) cs (All-weaker (IsSoundChange fs) (λ c. IsPlainChange (functions_of fs) (effect_tree (change_effect fs c))) plain_change cs h.sound) in
         record {
           few = omega (arith, length-map cs (change_effect fs), h.few);
           each = each;
@@ -196,7 +199,10 @@ typed_invocations fs names h =
 -- a run of the core functions from a state without entries is one of the functions by name from the initial state
 pub runs_through : (fs : List SmallFunction) (names : List (List ℕ)) (answers : List Answer) (F : List Function) (list : List Invocation) (es : List Entry) (end : Store) → F ≡ functions_of fs → list ≡ map (invocation_of fs) names → es ≡ []
     → ((w : World) → Run (plain_machine w F) (entry_of es) list answers end) → RunsThrough fs names answers
-runs_through fs names answers F list es end p q r run = (end, λ w.
-  subst (λ (F : List Function). Run (plain_machine w F) initial_state (map (invocation_of fs) names) answers end) p
-  (subst (λ (is' : List Invocation). Run (plain_machine w F) initial_state is' answers end) q
-  (subst (λ (es : List Entry). Run (plain_machine w F) (entry_of es) list answers end) r (run w))))
+runs_through fs names answers F list es end p q r run = (
+  end,
+  λ w.
+      subst (λ (F : List Function). Run (plain_machine w F) initial_state (map (invocation_of fs) names) answers end) p
+      (subst (λ (is' : List Invocation). Run (plain_machine w F) initial_state is' answers end) q
+      (subst (λ (es : List Entry). Run (plain_machine w F) (entry_of es) list answers end) r (run w))),
+)

@@ -1,8 +1,8 @@
 //! Texts of a small form, and the run of their script.
 
-pub mod fault;
 mod animate;
 mod evaluate;
+pub mod fault;
 mod functions;
 mod instance;
 mod interface;
@@ -22,3 +22,6 @@ pub use module::read_module;
 pub use perform::run_script;
 pub use rules::{is_sound_interface, is_sound_script};
 pub use script::read_script;
+
+#[cfg(test)]
+mod tests;

@@ -19,5 +19,5 @@ loop-at-preserved c =
       integers = c.in-Ok-step.ensures.integers;
       entries = omega (arith, c.in-Ok-step.ensures.grown, c.loop-at.invariant.entries);
       answers = c.push_reserved.ensures.len ∙ ap (λ n. n + 1) c.loop-at.invariant.answers;
-      room = c.push_reserved.ensures.capacity ∙ c.loop-at.invariant.room
+      room = c.push_reserved.ensures.capacity ∙ c.loop-at.invariant.room;
     }

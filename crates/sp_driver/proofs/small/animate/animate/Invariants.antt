@@ -10,5 +10,5 @@ invariant-loop-at l = record {
   integers : HoldsIntegers (entry_of l.state.entries);
   entries : length l.state.entries + 64 * (length l.list - l.at) ≤ 1000000;
   answers : vec_len l.answers ≡ l.at;
-  room : vec_capacity l.answers ≡ length l.list
+  room : vec_capacity l.answers ≡ length l.list;
 }

@@ -87,7 +87,7 @@ module _ (files : Files) (a : List ℕ) (s : Status) (load : IsLoadStatus s) whe
   judged_meets interface script x calls (inl p) = no_malformed s load p.1.1
   judged_meets interface script x calls (inr p) = elim (p.1) [
     | inl q ↦ no_malformed s load q.1.1
-    | inr q ↦ no_ok s load q.1.2.1
+    | inr q ↦ no_ok s load q.1.1
   ]
 
   work_meets : (interface instance script : List ℕ) (x : System) → WorkReport interface instance script x files a s → Meets (WorkComesTo instance script files) files a s

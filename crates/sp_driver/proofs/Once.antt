@@ -1,15 +1,11 @@
 -- Words and files have at most one report: work in steps has one, where each step has one outcome.
 use Rattle.std.proofs.Common.{◌≡◌, ◌⊎◌, ◌∙◌, ℕ, List, Option, Some, None, inl, inr, sym, subst, ap, length, arith}
 use Rattle.sp_text.specs.declared.token.TokenKind.{TokenKind}
-use Rattle.sp_core.proofs.Steps.{run_one}
-use Rattle.sp_core.specs.Machine.{initial_state}
 use Rattle.sp_lexer.proofs.Unique.{same_tokens}
 use Rattle.sp_outside.specs.Files.{Files, first_file}
 use Rattle.sp_driver.specs.Lines.{words_line}
 use Rattle.sp_driver.specs.Report.{CommandReport, IsReport, ReportOf}
 use Rattle.sp_driver.specs.RunCommand.{AnsweredReport, JudgedReport, RunReport, WorkReport}
-use Rattle.sp_driver.specs.RunLines.{run_text}
-use Rattle.sp_driver.specs.SmallCore.{invocations_of, small_machine}
 use Rattle.sp_driver.specs.SmallTexts.{instance_spelling, interface_spelling, kinds, module_spelling, script_spelling}
 use Rattle.sp_driver.specs.Steps.{Demand, LoadGives, LoadRefused, Says, Then}
 use Rattle.sp_driver.specs.System.{PartsRefused, SystemGives, SystemRefused}
@@ -23,6 +19,7 @@ use Rattle.sp_driver.specs.declared.small.texts.SmallScript.{SmallScript}
 use Rattle.sp_driver.specs.declared.status.Status.{Status}
 use Rattle.sp_driver.specs.declared.status.Status.TheVariants as status
 use Rattle.sp_driver.specs.declared.system.System.{System}
+use Rattle.sp_driver.proofs.SmallRuns.{printed_once}
 use Rattle.sp_driver.proofs.SmallTrees.{IsUnambiguous, instance_unambiguous, interface_unambiguous, module_unambiguous, script_unambiguous}
 
 -- ---- steps
@@ -159,9 +156,7 @@ module _ (files : Files) where
 -- ---- commands
 
 answered_once : (x : System) (script : SmallScript) → IsOnce (AnsweredReport x script)
-answered_once x script a b s t p q =
-    let same : p.0 ≡ q.0 = (run_one (small_machine x.interface.tree x.module.tree) (invocations_of x.module.tree script) initial_state p.0 q.0 p.1.0 q.1.0 p.1.1 q.1.1).0 in
-    (p.2.0 ∙ ap (run_text x.interface.tree.name script.calls) same ∙ sym q.2.0, p.2.1 ∙ sym q.2.1)
+answered_once x script a b s t p q = (printed_once x.interface.tree x.module.tree script a b p.0 q.0, p.1 ∙ sym q.1)
 
 judged_once : (interface script : List ℕ) (x : System) (calls : Reading SmallScript) → IsOnce (JudgedReport interface script x calls)
 judged_once interface script x calls = demand_once _ _ _ (says_once _ _) (demand_once _ _ _ (says_once _ _) (answered_once x calls.tree))

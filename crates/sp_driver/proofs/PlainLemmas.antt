@@ -1,17 +1,15 @@
 -- What plain functions give in a state, and what their terms are.
-use Rattle.std.proofs.Common.{rules, ◌≡◌, ℕ, zero, suc, ◌+◌, ◌<◌, refl, sym, ◌∙◌, ap, subst, add-one, List, [], ◌∷◌, map, length, Option, Some, None}
+use Rattle.std.proofs.Common.{rules, ◌≡◌, ℕ, refl, sym, ◌∙◌, ap, subst, add-one, List, [], ◌∷◌, map, length, Option, Some}
 use Rattle.std.specs.Prelude.{slice_get, slice_index_or, unwrap_or}
 use Rattle.std.proofs.lemmas.Option.{slice_get_read, slice_get_within}
-use Rattle.sp_values.specs.declared.value.Ty.TheVariants as ty
 use Rattle.sp_values.specs.declared.value.Value.{Value}
 use Rattle.sp_values.specs.declared.value.Op.{Op}
 use Rattle.sp_values.specs.Arithmetic.{IsInteger}
 use Rattle.sp_core.specs.declared.expr.Expr.{Expr}
 use Rattle.sp_core.specs.declared.expr.Expr.TheVariants as expr
 use Rattle.sp_core.specs.declared.expr.Expr.TheFolds.{the_lemmas}
-use Rattle.sp_core.specs.declared.function.Kind.TheVariants as kind
 use Rattle.sp_core.specs.declared.function.Function.{Function}
-use Rattle.sp_core.specs.Tree.{Tree, Const, Look, Two, tree, trees_of}
+use Rattle.sp_core.specs.Tree.{Const, Look, Two, tree, trees_of}
 use Rattle.sp_core.specs.Values.{World, Reads, Store, look, nothing, reads_by, reads_under, value_of}
 use Rattle.sp_driver.specs.PlainForm.{IsStored, IsStoredAs, IsPlainTerm, constant_of, initial_of}
 

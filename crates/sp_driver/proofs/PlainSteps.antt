@@ -1,7 +1,8 @@
 -- That writing the new values of plain changes is a step of the machine.
-use Rattle.std.proofs.Common.{◌≡◌, ◌≢◌, ℕ, suc, ◌<◌, refl, sym, ◌∙◌, ap, subst, arith, Bool, true, false, List, [], ◌∷◌, ◌++◌, map, length, get_or, Option, Some, None, inl, inr}
+use Rattle.std.proofs.Common.{◌≡◌, ◌≢◌, ℕ, suc, ◌+◌, ◌<◌, refl, sym, ◌∙◌, ap, subst, arith, Bool, true, false, List, [], ◌∷◌, ◌++◌, map, length, get_or, take, Option, Some, inl, inr}
 use Rattle.std.specs.Prelude.{if◌then◌else◌, slice_get, position}
 use Rattle.std.specs.List.{All, AllPairs, Contains}
+use Rattle.std.proofs.lemmas.List.{take_more}
 use Rattle.std.proofs.lemmas.Option.{slice_get_read}
 use Rattle.std.proofs.lemmas.List.Elements.{All-head, All-tail, All-nil}
 use Rattle.sp_values.specs.declared.value.Value.{Value}
@@ -16,13 +17,14 @@ use Rattle.sp_core.specs.declared.function.Answer.{Answer as AnAnswer}
 use Rattle.sp_core.specs.declared.function.Answer.TheVariants as answer
 use Rattle.sp_core.specs.declared.expr.Expr.{Expr}
 use Rattle.sp_core.specs.Effects.{Change, Answer, If, Every, EffectTree, GuardedChange, changes, changes_in, effect_tree, effect_trees, effect_trees_of}
-use Rattle.sp_core.specs.Machine.{AnswersBy, AnswersPlainly, AreBindings, Changes, IsTrueChange, Machine, Step, given, target, value_at}
+use Rattle.sp_core.specs.Machine.{AnswersBy, AnswersPlainly, AreBindings, Changes, IsTrueChange, Machine, Run, Step, given, target, value_at}
 use Rattle.sp_core.specs.States.{put_at}
 use Rattle.sp_core.specs.Tree.{none, more, tree}
 use Rattle.sp_core.specs.Values.{Store, World, is_true, look, value_in}
+use Rattle.sp_core.proofs.Steps.{run_append}
 use Rattle.sp_core.proofs.StateLemmas.{hit, hit-Decides}
 use Rattle.sp_core.proofs.Unique.{Contains-cons, Contains-first, Contains-later, Contains-nil}
-use Rattle.sp_driver.specs.PlainForm.{ArePlainChanges, ArePlainlyChanged, HoldsIntegers, IsPlainChange, IsPlainFunction, IsPlainKind, IsStored, plain_machine}
+use Rattle.sp_driver.specs.PlainForm.{ArePlainChanges, ArePlainlyChanged, HoldsIntegers, IsPlainChange, IsPlainFunction, IsPlainKind, IsRunUntil, IsStored, plain_machine}
 use Rattle.sp_driver.specs.PlainWork.{new_value, target_of, tree_target, tree_value, written}
 
 -- the change of a plain effect
@@ -85,7 +87,7 @@ module _ (w : World) (fs : List Function) (s : Store) where
     | inl p ↦
         let now : Store = put_at (target_of e) [] (new_value w fs s e) u in
         let at : written (map target_of es) (map (new_value w fs s) es) now (target_of e) [] ≡ Some (new_value w fs s e) =
-            stays es now (target_of e) [] (λ b k f q. later e es apart b k f) ∙ put_here (target_of e) [] (new_value w fs s e) u in
+        stays es now (target_of e) [] (λ b k f q. later e es apart b k f) ∙ put_here (target_of e) [] (new_value w fs s e) u in
         subst (λ (b : GuardedChange). written (map target_of es) (map (new_value w fs s) es) now b.fun [] ≡ Some (value_in w fs s [] b.value)) p at
     | inr q ↦ becomes es (put_at (target_of e) [] (new_value w fs s e) u) (rest_apart e es apart) a q
   ]
@@ -143,29 +145,34 @@ written_integers (g ∷ gs) (x ∷ xs) s all holds = written_integers gs xs (put
 -- an operation without exceptions steps to the state that its changes make, and answers Done
 pub step_done : (m : Machine) (s : Store) (i : Invocation) (f : Function) (es : List Effect) (t : Store) → slice_get m.functions i.fun ≡ Some f → f.exceptions ≡ [] → f.kind ≡ kind.Operation es
     → Changes m s s i (changes_in (effect_trees_of (map effect_tree es))) t → Step m s i answer.Done t
-step_done m s i f es t there free is changed = (f, record {
-  function = there;
-  answers =
-      subst (λ (o : Option ℕ). AnswersBy m s i f o answer.Done) (ap (λ xs. position (λ e. is_true (value_at m s i.args (tree e.1))) xs) (sym free))
-      (subst (λ (k : Kind). AnswersPlainly m s i k answer.Done) (sym is) refl);
-  moves = subst (λ (k : Kind). Changes m s s i (changes_in (effect_trees k)) t) (sym is) changed;
-})
+step_done m s i f es t there free is changed = (
+  f,
+  record {
+    function = there;
+    answers =
+        subst (λ (o : Option ℕ). AnswersBy m s i f o answer.Done) (ap (λ xs. position (λ e. is_true (value_at m s i.args (tree e.1))) xs) (sym free))
+        (subst (λ (k : Kind). AnswersPlainly m s i k answer.Done) (sym is) refl);
+    moves = subst (λ (k : Kind). Changes m s s i (changes_in (effect_trees k)) t) (sym is) changed;
+  },
+)
 
 -- a V-function of the state without exceptions answers what the state gives, and changes nothing
 pub step_value : (m : Machine) (s : Store) (i : Invocation) (f : Function) (ty : Ty) (e : Expr) → slice_get m.functions i.fun ≡ Some f → f.exceptions ≡ [] → f.kind ≡ kind.Primitive ty e
     → Step m s i (answer.Value (look m.world m.functions s i.fun i.args)) s
 step_value m s i f ty e there free is =
-    let a : AnAnswer = answer.Value (look m.world m.functions s i.fun i.args) in
-    (f, record {
-      function = there;
-      answers =
-          subst (λ (o : Option ℕ). AnswersBy m s i f o a) (ap (λ xs. position (λ e. is_true (value_at m s i.args (tree e.1))) xs) (sym free))
-          (subst (λ (k : Kind). AnswersPlainly m s i k a) (sym is) refl);
-      moves = subst (λ (k : Kind). Changes m s s i (changes_in (effect_trees k)) s) (sym is) (record {
-        named = λ b cs c. absurd (Contains-nil b c.of);
-        others = λ g v n. refl;
-      });
-    })
+    let a : AnAnswer = answer.Value (look m.world m.functions s i.fun i.args) in (
+      f,
+      record {
+        function = there;
+        answers =
+            subst (λ (o : Option ℕ). AnswersBy m s i f o a) (ap (λ xs. position (λ e. is_true (value_at m s i.args (tree e.1))) xs) (sym free))
+            (subst (λ (k : Kind). AnswersPlainly m s i k a) (sym is) refl);
+        moves = subst (λ (k : Kind). Changes m s s i (changes_in (effect_trees k)) s) (sym is) (record {
+          named = λ b cs c. absurd (Contains-nil b c.of);
+          others = λ g v n. refl;
+        });
+      },
+    )
 
 -- the state in which new values were written is the one that the changes make
 pub plain_changed : (fs : List Function) (es : List Effect) → ArePlainChanges fs es → (s u t : Store) (vs : List Value) → ((w : World) → vs ≡ map (new_value w fs s) es) → u ≡ s
@@ -190,3 +197,14 @@ stored_at fs g f t e there plain is =
 -- a plain operation's changes are plain
 pub plain_at : (fs : List Function) (f : Function) (es : List Effect) → IsPlainFunction fs f → f.kind ≡ kind.Operation es → ArePlainChanges fs es
 plain_at fs f es plain is = subst (IsPlainKind fs) is plain.kind
+
+-- a run of the first invocations, and a step of the next one
+pub run_more : (fs : List Function) (s : Store) (list : List Invocation) (at : ℕ) (i : Invocation) (answers : List AnAnswer) (t : Store) (a : AnAnswer) (u : Store) → at < length list → i ≡ get_or list at i
+    → IsRunUntil fs s list at answers t → ((w : World) → Step (plain_machine w fs) t i a u) → IsRunUntil fs s list (at + 1) (answers ++ a ∷ []) u
+run_more fs s list at i answers t a u within is run step = record {
+  within = omega arith;
+  run = λ w.
+      let front : take (at + 1) list ≡ take at list ++ i ∷ [] = take_more list at i within ∙ ap (λ x. take at list ++ x ∷ []) (sym is) in
+      subst (λ (is' : List Invocation). Run (plain_machine w fs) s is' (answers ++ a ∷ []) u) (sym front)
+      (run_append (plain_machine w fs) (take at list) (i ∷ []) s t u answers (a ∷ []) (run.run w) (u, step w, refl));
+}

@@ -6,7 +6,6 @@ use Rattle.sp_text.specs.declared.token.TokenKind.{TokenKind}
 use Rattle.sp_text.specs.declared.token.TokenKind.TheVariants as kind
 use Rattle.sp_text.specs.declared.token.Keyword.TheVariants as keyword
 use Rattle.sp_text.specs.declared.token.Symbol.TheVariants as symbol
-use Rattle.sp_driver.specs.declared.small.texts.SmallEquation.{SmallEquation}
 use Rattle.sp_driver.specs.declared.small.texts.SmallLiteral.{SmallLiteral}
 use Rattle.sp_driver.specs.declared.small.texts.SmallOperand.{SmallOperand}
 use Rattle.sp_driver.specs.declared.small.texts.SmallOperand.TheVariants as operand
@@ -15,7 +14,7 @@ use Rattle.sp_driver.specs.declared.small.texts.SmallChange.{SmallChange}
 use Rattle.sp_driver.specs.declared.small.texts.SmallBody.{SmallBody}
 use Rattle.sp_driver.specs.declared.small.texts.SmallBody.TheVariants as body
 use Rattle.sp_driver.specs.declared.small.texts.SmallFunction.{SmallFunction}
-use Rattle.sp_driver.specs.SmallTexts.{word, body_spelling, function_spelling, call, equation_spelling, interface_end, literal_spelling, operand_spelling, statement_spelling, change_spelling, invocation_spelling}
+use Rattle.sp_driver.specs.SmallTexts.{word, body_spelling, function_spelling, call, literal_spelling, operand_spelling, statement_spelling, change_spelling, invocation_spelling}
 use Rattle.sp_driver.specs.SmallFronts.{LacksChange}
 
 -- a list of parts that are spelled one after another

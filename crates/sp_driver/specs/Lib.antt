@@ -6,10 +6,10 @@ pub mod PlainWork
 pub mod Report
 pub mod Run
 pub mod RunCommand
-pub mod RunLines
 pub mod SmallCore
 pub mod SmallFronts
 pub mod SmallRules
+pub mod SmallRun
 pub mod SmallTexts
 pub mod Status
 pub mod Steps

@@ -1,6 +1,6 @@
 -- The form of functions whose machine `step` runs: V-functions of the state that hold integers, and operations that change
 -- different ones of them, all without formals, exceptions and guards; and of the states of that machine.
-use Rattle.std.specs.Prelude.{◌≡◌, ◌≢◌, ℕ, ◌<◌, ◌≤◌, IsTrue, List, [], length, map, Some, slice_get}
+use Rattle.std.specs.Prelude.{◌≡◌, ◌≢◌, ℕ, ◌<◌, ◌≤◌, IsTrue, List, [], length, map, take, Some, slice_get}
 use Rattle.std.specs.List.{All, AllPairs}
 use Rattle.sp_values.specs.declared.value.Ty.TheVariants as ty
 use Rattle.sp_values.specs.declared.value.Value.{Value}
@@ -8,15 +8,15 @@ use Rattle.sp_values.specs.declared.value.Value.TheVariants as value
 use Rattle.sp_values.specs.declared.value.Op.TheVariants as op
 use Rattle.sp_values.specs.declared.place.Invocation.{Invocation}
 use Rattle.sp_values.specs.Arithmetic.{IsInteger}
-use Rattle.sp_core.specs.declared.expr.Expr.{Expr}
 use Rattle.sp_core.specs.declared.expr.Expr.TheVariants as expr
 use Rattle.sp_core.specs.declared.function.Effect.{Effect}
+use Rattle.sp_core.specs.declared.function.Answer.{Answer}
 use Rattle.sp_core.specs.declared.function.Kind.{Kind}
 use Rattle.sp_core.specs.declared.function.Kind.TheVariants as kind
 use Rattle.sp_core.specs.declared.function.Function.{Function}
 use Rattle.sp_core.specs.Effects.{Change, EffectTree, effect_tree, effect_trees_of, changes_in}
 use Rattle.sp_core.specs.Tree.{Tree, Const, Look, Two, none, tree}
-use Rattle.sp_core.specs.Machine.{Changes, Machine}
+use Rattle.sp_core.specs.Machine.{Changes, Machine, Run}
 use Rattle.sp_core.specs.Values.{Store, World}
 
 -- the value of a constant, and the initial value of a V-function whose is one; `?` for all others
@@ -86,3 +86,8 @@ plain_machine w functions = record { world = w; functions = functions }
 -- from state s the effects make state t
 abbrev pub ArePlainlyChanged : List Function → List Effect → Store → Store → Type 0
 ArePlainlyChanged functions effects s t = (w : World) (i : Invocation) → i.args ≡ [] → Changes (plain_machine w functions) s s i (changes_in (effect_trees_of (map effect_tree effects))) t
+
+-- the steps of the first invocations, as many as there are answers, lead from state s to state t
+pub record IsRunUntil (functions : List Function) (s : Store) (list : List Invocation) (at : ℕ) (answers : List Answer) (t : Store) : Type 0 where
+  pub within : at ≤ length list
+  pub run : (w : World) → Run (plain_machine w functions) s (take at list) answers t

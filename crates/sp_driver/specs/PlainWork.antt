@@ -1,5 +1,5 @@
 -- What the parts of `step` make: the targets and new values of plain changes, and the state in which they are written.
-use Rattle.std.specs.Prelude.{ℕ, List, [], ◌∷◌, map}
+use Rattle.std.specs.Prelude.{ℕ, List, [], ◌∷◌}
 use Rattle.sp_values.specs.declared.value.Value.{Value}
 use Rattle.sp_values.specs.declared.value.Value.TheVariants as value
 use Rattle.sp_core.specs.declared.function.Effect.{Effect}

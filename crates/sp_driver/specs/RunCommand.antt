@@ -1,14 +1,10 @@
 -- The report of `run`: the answers of a script of an interface, from its initial state in an instance.
 use Rattle.std.specs.Prelude.{◌≡◌, ◌⊎◌, ℕ, List}
-use Rattle.sp_core.specs.Machine.{Run, initial_state}
-use Rattle.sp_core.specs.Values.{Store}
-use Rattle.sp_core.specs.declared.function.Answer.{Answer}
 use Rattle.sp_outside.specs.Files.{Files}
-use Rattle.sp_driver.specs.RunLines.{run_text}
-use Rattle.sp_driver.specs.SmallCore.{invocations_of, small_machine}
 use Rattle.sp_driver.specs.SmallRules.{IsSoundInterface, IsSoundScript}
+use Rattle.sp_driver.specs.SmallRun.{IsPrintedRun}
 use Rattle.sp_driver.specs.SmallTexts.{instance_spelling, script_spelling}
-use Rattle.sp_driver.specs.Steps.{Demand, Says, Then}
+use Rattle.sp_driver.specs.Steps.{Demand, Then}
 use Rattle.sp_driver.specs.System.{SystemComesTo, SystemGives, SystemRefused}
 use Rattle.sp_driver.specs.Texts.{ReadGives, ReadRefused, UnbuiltText}
 use Rattle.sp_driver.specs.declared.read.Reading.{Reading}
@@ -18,15 +14,10 @@ use Rattle.sp_driver.specs.declared.status.Status.{Status}
 use Rattle.sp_driver.specs.declared.status.Status.TheVariants as status
 use Rattle.sp_driver.specs.declared.system.System.{System}
 
--- the answers are those of the machine's run of the script, from the initial state
-abbrev pub AreAnswers : System → SmallScript → List Answer → Type 0
-AreAnswers system script answers =
-    (end : Store) × Run (small_machine system.interface.tree system.module.tree) initial_state (invocations_of system.module.tree script) answers end
-
--- they are printed
+-- the script runs from the initial state, and its answers are printed
 abbrev pub AnsweredReport : System → SmallScript → List ℕ → Status → Type 0
 AnsweredReport system script bytes got =
-    (answers : List Answer) × AreAnswers system script answers × Says (run_text system.interface.tree.name script.calls answers) status.Ok bytes got
+    IsPrintedRun system.interface.tree system.module.tree script bytes × (got ≡ status.Ok)
 
 -- the system is judged first, and then the script
 abbrev pub JudgedReport : List ℕ → List ℕ → System → Reading SmallScript → List ℕ → Status → Type 0

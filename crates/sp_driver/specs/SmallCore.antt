@@ -14,7 +14,7 @@ use Rattle.sp_core.specs.declared.function.Effect.TheVariants as effect
 use Rattle.sp_core.specs.declared.function.Kind.{Kind}
 use Rattle.sp_core.specs.declared.function.Kind.TheVariants as kind
 use Rattle.sp_core.specs.declared.function.Function.{Function}
-use Rattle.sp_core.specs.Instances.{Filling, machine_of}
+use Rattle.sp_core.specs.Instances.{machine_of}
 use Rattle.sp_core.specs.Machine.{Machine}
 use Rattle.sp_core.specs.Parts.{Parts}
 use Rattle.sp_driver.specs.declared.small.texts.SmallInterface.{SmallInterface}

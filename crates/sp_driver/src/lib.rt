@@ -8,7 +8,6 @@ mod lines;
 mod load;
 mod read;
 mod report;
-mod run_lines;
 mod run_report;
 pub mod small;
 mod status;

@@ -1,19 +1,17 @@
-ghost use Rattle.std.specs.Prelude.{◌≡◌, ◌≢◌, ◌≤◌, IfOk, length};
+ghost use Rattle.std.specs.Prelude.{◌≡◌, ◌≢◌, ◌≤◌, IfOk};
 ghost use Rattle.sp_outside.specs.Causes.{Rose};
 ghost use Rattle.sp_driver.specs.Early.{IfReport, IsReadFault, Reports};
-ghost use Rattle.sp_driver.specs.RunCommand.{AnsweredReport, AreAnswers, JudgedReport, RunReport, WorkReport};
+ghost use Rattle.sp_driver.specs.RunCommand.{AnsweredReport, JudgedReport, RunReport, WorkReport};
 ghost use Rattle.sp_driver.specs.SmallRules.{IsSoundInterface, IsSoundScript};
 ghost use Rattle.sp_driver.specs.Texts.{UnbuiltText};
 
 use crate::lines::unbuilt_text;
 use crate::read::{Reading, load_tree};
 use crate::report::{Early, Report};
-use crate::run_lines::print_run;
 use crate::small::texts::{SmallInstance, SmallScript};
-use crate::small::{is_sound_interface, is_sound_script};
+use crate::small::{is_sound_interface, is_sound_script, run_script};
 use crate::status::Status;
 use crate::system::{System, load_system};
-use sp_core::Answer;
 use sp_outside::Library;
 use sp_text::Memory;
 use std::alloc::Global;
@@ -97,22 +95,8 @@ fn answered_report(alloc: Global, system: &System, script: &SmallScript) -> Resu
     ensures reports { IfOk result (λ report. AnsweredReport system.now script.now report.bytes.items report.status) }
     ensures no_words { IfOk result (λ report. report.status ≢ Status.Words) }
 {
-    let answers = answers_of(alloc, system, script)?;
-    let name = &system.interface.tree.name;
     Ok(Report {
-        bytes: print_run(alloc, name, script.calls.items(), &answers)?,
+        bytes: run_script(alloc, &system.interface.tree, &system.module.tree, script)?,
         status: Status::Ok,
     })
-}
-
-// The answers of the script, from the initial state.
-fn answers_of(_alloc: Global, system: &System, script: &SmallScript) -> Result<Vec<Answer>, Memory>
-    requires interface { IsSoundInterface system.now.interface.tree system.now.module.tree system.now.sample.tree }
-    requires script { IsSoundScript system.now.module.tree script.now }
-    ensures answers { IfOk result (λ answers. AreAnswers system.now script.now answers.items) }
-    ensures each { IfOk result (λ answers. length answers.items ≡ length script.now.calls) }
-{
-    let _ = system;
-    let _ = script;
-    Err(Memory)
 }

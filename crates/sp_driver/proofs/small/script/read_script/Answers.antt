@@ -1,4 +1,4 @@
-use Rattle.std.proofs.Common.{sym, ◌∙◌, arith, List, length, ap}
+use Rattle.std.proofs.Common.{sym, ◌∙◌, arith, length, ap}
 use Rattle.std.proofs.lemmas.Grind.{common_steps}
 use Rattle.sp_driver.specs.SmallTexts.{kinds}
 use Rattle.sp_driver.proofs.SmallSpellings.{next_invocation, no_invocation}

@@ -1,11 +1,11 @@
-use Rattle.std.proofs.Common.{◌≡◌, List, sym, ◌∙◌, ap, subst, map}
+use Rattle.std.proofs.Common.{List, sym, ◌∙◌, ap, subst, map}
 use Rattle.std.specs.List.{All}
 use Rattle.sp_values.specs.declared.value.Value.{Value}
 use Rattle.sp_values.specs.Arithmetic.{IsInteger}
 use Rattle.sp_core.specs.States.{entry_of}
 use Rattle.sp_core.specs.Values.{Store}
 use Rattle.sp_driver.specs.PlainForm.{HoldsIntegers}
-use Rattle.sp_driver.specs.PlainWork.{target_of, written}
+use Rattle.sp_driver.specs.PlainWork.{target_of}
 use Rattle.sp_driver.proofs.PlainSteps.{plain_changed, written_integers}
 use Rattle.sp_driver.proofs.small.step.change.Goals as goal
 

@@ -9,5 +9,5 @@ use Rattle.sp_driver.proofs.small.step.values.Given as goal
 abbrev pub invariant-loop-effect : goal.invariant-loop-effect
 invariant-loop-effect l = record {
   values : (w : World) → l.values.items ≡ map (new_value w l.functions (entry_of l.state.entries)) (take l.effect-index l.effects);
-  integers : All IsInteger l.values.items
+  integers : All IsInteger l.values.items;
 }

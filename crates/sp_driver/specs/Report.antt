@@ -1,0 +1,36 @@
+-- The report of words over files: the bytes that are printed, and the status. This is the only definition that lists
+-- the commands, each of which has its own.
+use Rattle.std.specs.Prelude.{ℕ, List, Option, Some, None}
+use Rattle.sp_outside.specs.Files.{Files}
+use Rattle.sp_driver.specs.Lines.{words_line}
+use Rattle.sp_driver.specs.RunCommand.{RunComesTo, RunReport}
+use Rattle.sp_driver.specs.Steps.{Says}
+use Rattle.sp_driver.specs.Words.{Command, command_of, run}
+use Rattle.sp_driver.specs.declared.status.Status.{Status}
+use Rattle.sp_driver.specs.declared.status.Status.TheVariants as status
+
+-- the report of a command
+abbrev pub CommandReport : Command → Files → List ℕ → Status → Type 0
+CommandReport (run interface instance script) = RunReport interface instance script
+
+-- and of words that may be none
+abbrev pub ReportOf : Option Command → Files → List ℕ → Status → Type 0
+ReportOf None files = Says words_line status.Words
+ReportOf (Some command) files = CommandReport command files
+
+-- the words have this report over the files
+abbrev pub IsReport : List (List ℕ) → Files → List ℕ → Status → Type 0
+IsReport words = ReportOf (command_of words)
+
+-- the command loads files
+abbrev pub IsLoading : Option Command → Type 0
+IsLoading None = ⊥
+IsLoading (Some (run interface instance script)) = Unit {0}
+
+-- the work of the words comes to the file of this name
+abbrev pub CommandComesTo : Option Command → Files → List ℕ → Type 0
+CommandComesTo None files name = ⊥
+CommandComesTo (Some (run interface instance script)) files name = RunComesTo interface instance script files name
+
+abbrev pub ComesTo : List (List ℕ) → Files → List ℕ → Type 0
+ComesTo words = CommandComesTo (command_of words)

@@ -1,5 +1,5 @@
 -- That closing a table relates just the levels between which there is a path.
-use Rattle.std.proofs.Common.{◌≡◌, ℕ, ◌+◌, ◌<◌, ◌≤◌, ◌&&◌, ◌||◌, ◌⊎◌, ⊎_elim, inl, inr, Bool, true, false, ltb, eqb, List, refl, sym, ap, ◌∙◌, subst, arith}
+use Rattle.std.proofs.Common.{◌≡◌, ℕ, ◌+◌, ◌<◌, ◌&&◌, ◌||◌, ◌⊎◌, ⊎_elim, inl, inr, Bool, true, false, ltb, eqb, List, refl, sym, ◌∙◌, subst, arith}
 use Rattle.std.specs.List.{Contains}
 use Rattle.std.proofs.lemmas.Bool.{cases_eq, eqb-true, eq-eqb, or_cases, or_left, or_right, and_parts, and_from}
 use Rattle.std.proofs.lemmas.Bool.Decides.{nat_tests}
@@ -85,7 +85,6 @@ module _ (count : ℕ) (pairs : List (ℕ × ℕ)) (none same declared closed : 
     (kept_closed : (a b : ℕ) → IsRelated count declared a b → IsRelated count closed a b)
     (paths : (a b : ℕ) → IsRelated count closed a b → Path (IsRelated count declared) a b)
     (transitive : (a b c : ℕ) → IsRelated count closed a b → IsRelated count closed b c → IsRelated count closed a c) where
-
   declared_step : (a b : ℕ) → IsRelated count declared a b → Path (IsDeclared pairs) a b
   declared_step a b r = ⊎_elim alike (λ p. step p here) (only_pairs a b r)
     where

@@ -1,9 +1,9 @@
 -- From the tables that a declaration fills to the order of its pairs, and to the lattice's value.
-use Rattle.std.proofs.Common.{◌≡◌, ℕ, ◌+◌, ◌*◌, ◌<◌, ◌≤◌, ◌&&◌, ◌⊎◌, ◌↔◌, ⊎_elim, Bool, true, false, ltb, List, length, slice_index, refl, sym, ap, ◌∙◌, subst, arith}
-use Rattle.std.proofs.lemmas.Bool.{cases_order, and_parts, and_from, lt-ltb, ltb-true}
-use Rattle.sp_lattice.specs.Bounds.{IsPartialOrder, IsLeastUpper, IsGreatestLower, IsLattice, EachHasLub, EachHasGlb}
-use Rattle.sp_lattice.specs.Closure.{Path, here, step, IsOrdered}
-use Rattle.sp_lattice.specs.Order.{Order, is_below, IsBelow, join, meet, bottom_level, top_level, IsLatticeOrder, IsOrderOf}
+use Rattle.std.proofs.Common.{◌≡◌, ℕ, ◌+◌, ◌*◌, ◌<◌, ◌≤◌, ◌&&◌, ◌↔◌, ⊎_elim, Bool, List, length, slice_index, refl, sym, ap, ◌∙◌, arith}
+use Rattle.std.proofs.lemmas.Bool.{cases_order, lt-ltb}
+use Rattle.sp_lattice.specs.Bounds.{IsPartialOrder, IsLeastUpper, IsGreatestLower, IsLattice, EachHasLub}
+use Rattle.sp_lattice.specs.Closure.{here, IsOrdered}
+use Rattle.sp_lattice.specs.Order.{Order, is_below, IsBelow, IsOrderOf}
 use Rattle.sp_lattice.specs.Refusal.{IsFirstPair, IsCycle, HasNoLub, HasNoGlb, IsRefused}
 use Rattle.sp_lattice.specs.Table.{entry, IsRelated, AreLubs, IsGreatest, IsKept}
 use Rattle.sp_lattice.specs.declared.decl.LatticeFault.{LatticeFault}
@@ -91,8 +91,9 @@ module _ (count : ℕ) (pairs : List (ℕ × ℕ)) (table : List Bool)
   module _ (opposite : List Bool) (turned : (a b : ℕ) → a < count → b < count → entry count opposite a b ≡ entry count table b a) where
     opposite_same : (a b : ℕ) → a < count → b < count → (IsRelated count table b a ↔ IsRelated count opposite a b)
     opposite_same a b p q = (
-        λ r. record { low = p; high = q; there = turned a b p q ∙ r.there },
-        λ r. record { low = q; high = p; there = sym (turned a b p q) ∙ r.there })
+      λ r. record { low = p; high = q; there = turned a b p q ∙ r.there },
+      λ r. record { low = q; high = p; there = sym (turned a b p q) ∙ r.there },
+    )
 
     pub opposite_partial : IsPartialOrder count (IsRelated count opposite)
     opposite_partial = partial_same count (λ a b. IsRelated count table b a) (IsRelated count opposite) opposite_same
@@ -149,8 +150,9 @@ below_entry o x y level = ap (λ b. b && entry o.count o.table x y) (lt-ltb y o.
 
 pub related_below : (o : Order) (x y : ℕ) → x < o.count → y < o.count → (IsRelated o.count o.table x y ↔ IsBelow o x y)
 related_below o x y p q = (
-    λ r. below_entry o x y q ∙ r.there,
-    λ e. record { low = p; high = q; there = sym (below_entry o x y q) ∙ e })
+  λ r. below_entry o x y q ∙ r.there,
+  λ e. record { low = p; high = q; there = sym (below_entry o x y q) ∙ e },
+)
 
 -- the value of a table that has the order of the pairs
 pub order_value : (count : ℕ) (pairs : List (ℕ × ℕ)) (table : List Bool)

@@ -1,8 +1,8 @@
 -- What a write of one entry changes in a table.
-use Rattle.std.proofs.Common.{◌≡◌, ◌≢◌, ℕ, ◌+◌, ◌*◌, ◌<◌, ◌≤◌, ◌&&◌, ◌||◌, ◌⊎◌, ⊎_elim, Bool, true, false, eqb, List, length, get_or, set, refl, sym, ap, ◌∙◌, arith, get_or-set_other, get_or-set_same}
+use Rattle.std.proofs.Common.{◌≡◌, ◌≢◌, ℕ, ◌+◌, ◌*◌, ◌<◌, ◌&&◌, ◌||◌, ⊎_elim, Bool, true, false, eqb, List, length, get_or, set, ap, ◌∙◌, arith, get_or-set_other, get_or-set_same}
 use Rattle.std.proofs.lemmas.Bool.Decides.{nat_tests, eqb_tells}
 use Rattle.std.proofs.lemmas.Nat.{same_from_place, mul-add-lt}
-use Rattle.sp_lattice.specs.Table.{entry, IsRelated}
+use Rattle.sp_lattice.specs.Table.{entry}
 
 -- writing `true` at row x and column y
 pub entry-set : (count : ℕ) (table : List Bool) (x y a b : ℕ) → length table ≡ count * count → x < count → y < count → b < count

@@ -1,10 +1,9 @@
 -- Orders as values: their tests as relations, and that the bounds and ends found by these are the bounds and ends.
-use Rattle.std.proofs.Common.{◌≡◌, ℕ, zero, suc, ◌+◌, ◌*◌, ◌<◌, ◌≤◌, ◌&&◌, ◌||◌, ◌⊎◌, ◌↔◌, not, ⊎_elim, inl, inr, Bool, true, false, ltb, List, Option, Some, None, cond, length, slice_index, unwrap_or, refl, sym, ap, ◌∙◌, subst, arith}
+use Rattle.std.proofs.Common.{◌≡◌, ℕ, zero, suc, ◌+◌, ◌<◌, ◌≤◌, ◌&&◌, ◌||◌, not, ⊎_elim, Bool, true, false, Some, cond, unwrap_or, refl, sym, ap, ◌∙◌, subst, arith}
 use Rattle.std.specs.List.{find, list_all, range_with_len}
-use Rattle.std.proofs.lemmas.Bool.{cases_eq, cases_lt, cases_Bool, and_parts, and_from, lt-ltb, false≢true}
-use Rattle.std.proofs.lemmas.Bool.Decides.{nat_tests}
-use Rattle.sp_lattice.specs.Bounds.{IsPartialOrder, IsLeastUpper, IsGreatestLower, IsLattice, EachHasLub, EachHasGlb}
-use Rattle.sp_lattice.specs.Order.{Order, is_below, IsBelow, levels, is_least_upper, is_greatest_lower, join, meet, bottom_level, top_level, IsLatticeOrder, IsOrderOf}
+use Rattle.std.proofs.lemmas.Bool.{cases_eq, cases_lt, and_parts, and_from, false≢true}
+use Rattle.sp_lattice.specs.Bounds.{IsPartialOrder, IsLeastUpper, IsGreatestLower, EachHasLub, EachHasGlb}
+use Rattle.sp_lattice.specs.Order.{Order, is_below, IsBelow, levels, is_least_upper, is_greatest_lower, join, meet, bottom_level, top_level, IsLatticeOrder}
 use Rattle.sp_lattice.proofs.Uppers.{lub_unique}
 
 -- the first number that passes, where one alone does

@@ -1,14 +1,14 @@
 -- That the product of a chain and the sets of some categories is a lattice, and that its pairs declare it.
-use Rattle.std.proofs.Common.{◌≡◌, ℕ, zero, suc, ◌+◌, ◌-◌, ◌*◌, ◌/◌, ◌%◌, ◌^◌, ◌<◌, ◌≤◌, ◌⊎◌, ◌↔◌, ⊎_elim, inl, inr, min, max, List, refl, sym, ap, ◌∙◌, subst, arith, bit_and, bit_or}
+use Rattle.std.proofs.Common.{◌≡◌, ℕ, ◌+◌, ◌*◌, ◌/◌, ◌%◌, ◌^◌, ◌<◌, ◌≤◌, ◌↔◌, ⊎_elim, min, max, List, refl, sym, ap, ◌∙◌, arith, bit_and, bit_or}
 use Rattle.std.specs.List.{Contains}
 use Rattle.std.specs.Int.{bit_at}
-use Rattle.std.proofs.Math.Nat.{mul-le-mul_right, mul-le-mul_left}
+use Rattle.std.proofs.Math.Nat.{mul-le-mul_right}
 use Rattle.std.proofs.lemmas.Bool.{cases_lt, cases_eq}
 use Rattle.std.proofs.lemmas.Nat.{pow_pos, pow_below, div-mul-add, mod-mul-add, div-add-mod', div_below, mod_below, mul-add-lt, or_lt, and_le_l}
 use Rattle.std.proofs.lemmas.Nat.Bits.{bit_at_and, bit_at_or, bit_at-lt, same_from_bits}
-use Rattle.sp_lattice.specs.Bounds.{IsPartialOrder, IsLeastUpper, IsGreatestLower, IsLattice}
+use Rattle.sp_lattice.specs.Bounds.{IsLeastUpper, IsGreatestLower, IsLattice}
 use Rattle.sp_lattice.specs.Closure.{Path, here, step, IsDeclared, IsOrdered}
-use Rattle.sp_lattice.specs.Product.{IsIn, IsSubset, IsProductBelow, level_number, position_of, set_of}
+use Rattle.sp_lattice.specs.Product.{IsSubset, IsProductBelow, level_number, position_of, set_of}
 use Rattle.sp_lattice.proofs.Declared.{lub_same, glb_from_lub, lub_from_glb, partial_same}
 
 pub subset_from_and : (s t : ℕ) → bit_and s t ≡ s → IsSubset s t
@@ -117,21 +117,27 @@ module _ (k chain x y : ℕ) (x_level : x < chain * 2 ^ k) (y_level : y < chain 
 
   pub product_lub : (z : ℕ) × IsLeastUpper (chain * 2 ^ k) (IsProductBelow k) x y z
   unfolding high union
-  product_lub = (level_number k high union, record {
+  product_lub = (
+    level_number k high union,
+    record {
       level = number_below high union (omega (arith, position_below x x_level, position_below y y_level)) union_inside;
       left = above_made k high union union_inside x (omega arith) (subset_or_left (set_of k x) (set_of k y));
       right = above_made k high union union_inside y (omega arith) (subset_or_right (set_of k x) (set_of k y));
       least = λ w level p q. below_made k high union union_inside w (omega (arith, p.chain, q.chain)) (or_subset (set_of k x) (set_of k y) (set_of k w) p.sets q.sets);
-    })
+    },
+  )
 
   pub product_glb : (z : ℕ) × IsGreatestLower (chain * 2 ^ k) (IsProductBelow k) x y z
   unfolding low common
-  product_glb = (level_number k low common, record {
+  product_glb = (
+    level_number k low common,
+    record {
       level = number_below low common (omega (arith, position_below x x_level)) common_inside;
       left = below_made k low common common_inside x (omega arith) (and_subset_left (set_of k x) (set_of k y));
       right = below_made k low common common_inside y (omega arith) (and_subset_right (set_of k x) (set_of k y));
       greatest = λ w level p q. above_made k low common common_inside w (omega (arith, p.chain, q.chain)) (subset_and (set_of k x) (set_of k y) (set_of k w) p.sets q.sets);
-    })
+    },
+  )
 
 pub product_lattice : (chain k : ℕ) → IsLattice (chain * 2 ^ k) (IsProductBelow k)
 product_lattice chain k = record {

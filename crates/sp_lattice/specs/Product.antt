@@ -1,6 +1,6 @@
 -- The product of a chain and the sets of some categories: its levels' numbers, and its order.
 -- For the products that this crate declares, and for the rules of texts that name them.
-use Rattle.std.specs.Prelude.{◌≡◌, ℕ, ◌+◌, ◌*◌, ◌/◌, ◌%◌, ◌^◌, ◌<◌, ◌≤◌}
+use Rattle.std.specs.Prelude.{◌≡◌, ℕ, ◌+◌, ◌*◌, ◌/◌, ◌%◌, ◌^◌, ◌≤◌}
 use Rattle.std.specs.Int.{bit_at}
 
 -- the number of the level at a chain position, with a set of categories

@@ -37,11 +37,7 @@ impl LatticeDecl {
     /// # Errors
     /// `TooManyLevels` with their number, or with the greatest `u32` where it is larger, exactly where there are over
     /// 256; `Memory` where the pairs can't be stored.
-    pub fn product(
-        alloc: Global,
-        chain: u32,
-        categories: u32,
-    ) -> Result<LatticeDecl, LatticeFault>
+    pub fn product(alloc: Global, chain: u32, categories: u32) -> Result<LatticeDecl, LatticeFault>
         requires { 1 ≤ chain }
         ensures count { IfOk result (λ decl. decl.count ≡ chain * 2 ^ categories) }
         ensures few { IfOk result (λ decl. decl.count ≤ 256) }
@@ -69,11 +65,7 @@ fn product_count(chain: u32, categories: u32) -> u32
 }
 
 /// The pairs of the product's order.
-fn product_pairs(
-    alloc: Global,
-    count: u32,
-    categories: u32,
-) -> Result<Vec<(u32, u32)>, Memory>
+fn product_pairs(alloc: Global, count: u32, categories: u32) -> Result<Vec<(u32, u32)>, Memory>
     requires some { 0 < count }
     requires few { count ≤ 256 }
     requires categories { categories ≤ 8 }

@@ -144,7 +144,9 @@ pub fn flipped(alloc: Global, table: &[bool], count: u16) -> Result<Vec<bool>, M
     let width = count as usize;
     let mut other = Vec::new(alloc);
     for place in 0..width * width {
-        other.push(table[place % width * width + place / width]).map_err(|_| Memory)?;
+        other
+            .push(table[place % width * width + place / width])
+            .map_err(|_| Memory)?;
     }
     Ok(other)
 }

@@ -1,4 +1,4 @@
-use Rattle.std.proofs.Common.{◌≡◌, ℕ, ◌+◌, ◌*◌, ◌/◌, ◌%◌, ◌<◌, [], ◌∷◌, ◌++◌, below_more, subst, sym, ◌∙◌, true, false, rules, arith}
+use Rattle.std.proofs.Common.{◌≡◌, ℕ, ◌+◌, ◌*◌, ◌/◌, ◌%◌, ◌<◌, [], ◌∷◌, ◌++◌, below_more, sym, ◌∙◌, rules, arith}
 use Rattle.std.specs.List.{Contains}
 use Rattle.std.proofs.lemmas.Bool.{false≢true}
 use Rattle.std.proofs.lemmas.List.Elements.{All-push, Contains-push, Contains-append_left}
@@ -16,22 +16,22 @@ loop-place-preserved c =
     let pair : ℕ × ℕ = (k / n, k % n) in
     let h = c.loop-place.invariant in
     elim c.if-is_product_below.branch [
-      then-is_product_below+in_ok-map_err w ↦
-        let pushed : w.push.new.self.items ≡ old ++ pair ∷ [] = search rules in
-        let there : IsProductBelow c.args.categories (k / n) (k % n) = c.is_product_below.ensures.0 w.if-is_product_below.true in
-        rw (w.pairs-is, pushed) (record {
-          levels = All-push (λ p. (p.0 < n) × (p.1 < n)) old pair h.levels (row_below n k c.requires.some within, column_below n k c.requires.some);
-          sound = pairs_more old (IsProductBelow c.args.categories) (k / n) (k % n) there h.sound;
-          whole = below_more (λ j. IsProductBelow c.args.categories (j / n) (j % n) → Contains (old ++ pair ∷ []) (j / n, j % n)) k
-              (λ j below r. Contains-append_left old (pair ∷ []) (j / n, j % n) (h.whole j below r)) (λ _. Contains-push old pair);
-        })
-    | else-is_product_below w ↦
-        rw w.pairs-is (record {
-          levels = h.levels;
-          sound = h.sound;
-          whole = below_more (λ j. IsProductBelow c.args.categories (j / n) (j % n) → Contains old (j / n, j % n)) k h.whole
-              (λ r. absurd (false≢true (sym w.if-is_product_below.false ∙ c.is_product_below.ensures.1 r)));
-        })
+      | then-is_product_below+in_ok-map_err w ↦
+          let pushed : w.push.new.self.items ≡ old ++ pair ∷ [] = search rules in
+          let there : IsProductBelow c.args.categories (k / n) (k % n) = c.is_product_below.ensures.0 w.if-is_product_below.true in
+          rw (w.pairs-is, pushed) (record {
+            levels = All-push (λ p. (p.0 < n) × (p.1 < n)) old pair h.levels (row_below n k c.requires.some within, column_below n k c.requires.some);
+            sound = pairs_more old (IsProductBelow c.args.categories) (k / n) (k % n) there h.sound;
+            whole = below_more (λ j. IsProductBelow c.args.categories (j / n) (j % n) → Contains (old ++ pair ∷ []) (j / n, j % n)) k
+                (λ j below r. Contains-append_left old (pair ∷ []) (j / n, j % n) (h.whole j below r)) (λ _. Contains-push old pair);
+          })
+      | else-is_product_below w ↦
+          rw w.pairs-is (record {
+            levels = h.levels;
+            sound = h.sound;
+            whole = below_more (λ j. IsProductBelow c.args.categories (j / n) (j % n) → Contains old (j / n, j % n)) k h.whole
+                (λ r. absurd (false≢true (sym w.if-is_product_below.false ∙ c.is_product_below.ensures.1 r)));
+          })
     ]
 
 pub returns-clause-whole : goal.returns-clause-whole

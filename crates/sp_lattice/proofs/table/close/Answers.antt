@@ -1,4 +1,4 @@
-use Rattle.std.proofs.Common.{ℕ, ◌<◌, arith}
+use Rattle.std.proofs.Common.{◌<◌, arith}
 use Rattle.sp_lattice.specs.Closure.{here, step}
 use Rattle.sp_lattice.proofs.Closing.{kept, only_paths, through_more}
 use Rattle.sp_lattice.proofs.table.close.Goals as goal

@@ -1,4 +1,4 @@
-use Rattle.std.proofs.Common.{◌≡◌, ℕ, ◌+◌, ◌*◌, ◌/◌, ◌%◌, ◌<◌, vec_len, false, get_or}
+use Rattle.std.proofs.Common.{◌≡◌, ℕ, ◌/◌, ◌%◌, ◌<◌, vec_len, false, get_or}
 use Rattle.sp_lattice.specs.Table.{entry}
 use Rattle.sp_lattice.proofs.table.flipped.Given as goal
 

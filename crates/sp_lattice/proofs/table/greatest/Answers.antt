@@ -1,4 +1,4 @@
-use Rattle.std.proofs.Common.{◌≡◌, ℕ, ◌<◌, true, false, subst, sym, arith}
+use Rattle.std.proofs.Common.{◌≡◌, ◌<◌, true, false, subst, sym, arith}
 use Rattle.sp_lattice.specs.Table.{entry, IsGreatest}
 use Rattle.sp_lattice.proofs.Uppers.{greatest_taken, greatest_left}
 use Rattle.sp_lattice.proofs.table.greatest.Goals as goal
@@ -13,12 +13,12 @@ loop-z-preserved c =
     let level : z < n = omega arith in
     let h = c.loop-z.invariant in
     elim c.if-table-place.branch [
-      then-table-place w ↦
-        let above : entry n table best z ≡ true = rw c.place.ensures.place at w.if-table-place.true in
-        rw w.greatest-is (record { level = level; found = greatest_taken n table c.requires.partial best z h.level level above h.found })
-    | else-table-place w ↦
-        let apart : entry n table best z ≡ false = rw c.place.ensures.place at w.if-table-place.false in
-        rw w.greatest-is (record { level = h.level; found = greatest_left n table c.requires.partial best z h.level level apart h.found })
+      | then-table-place w ↦
+          let above : entry n table best z ≡ true = rw c.place.ensures.place at w.if-table-place.true in
+          rw w.greatest-is (record { level = level; found = greatest_taken n table c.requires.partial best z h.level level above h.found })
+      | else-table-place w ↦
+          let apart : entry n table best z ≡ false = rw c.place.ensures.place at w.if-table-place.false in
+          rw w.greatest-is (record { level = h.level; found = greatest_left n table c.requires.partial best z h.level level apart h.found })
     ]
 
 pub returns : goal.returns

@@ -1,6 +1,3 @@
-use Rattle.std.proofs.Common.{◌≡◌, ℕ, Some, sym, ◌∙◌}
-use Rattle.sp_lattice.specs.Bounds.{IsLeastUpper}
-use Rattle.sp_lattice.specs.Table.{IsRelated}
 use Rattle.sp_lattice.proofs.Uppers.{lub_tested}
 use Rattle.sp_lattice.proofs.table.least_upper.Goals as goal
 

@@ -1,4 +1,4 @@
-use Rattle.std.proofs.Common.{◌≡◌, ℕ, ◌+◌, ◌*◌, ◌/◌, ◌%◌, ◌<◌, vec_len, slice_index, get_or, below_more, subst, ap, sym, ◌∙◌, arith, rules}
+use Rattle.std.proofs.Common.{◌≡◌, ℕ, ◌+◌, ◌*◌, ◌/◌, ◌%◌, ◌<◌, vec_len, slice_index, below_more, arith, rules}
 use Rattle.std.proofs.lemmas.Nat.{div-add-mod', div-mul-add, mod-mul-add}
 use Rattle.sp_lattice.specs.Bounds.{IsLeastUpper}
 use Rattle.sp_lattice.specs.Refusal.{HasNoLub}
@@ -17,8 +17,8 @@ returns-in_default-clause-missing c =
     let each = c.loop-place.invariant.each in
     let before = λ (j : ℕ) (below : j < k). let found : (z : ℕ) × IsLeastUpper n R (j / n) (j % n) z = (slice_index c.loop-place.bounds.items j, each j below) in found in
     let ordered = missing_ordered n R c.requires.partial (k / n) (k % n) (row_below n k some within) (column_below n k some)
-        (λ a b level earlier. at_place (λ x y. (z : ℕ) × IsLeastUpper n R x y z) n k before a b level (omega (arith, earlier_place n a b (k / n) (k % n) level earlier, div-add-mod' k n)))
-        c.in_default.ensures in
+    (λ a b level earlier. at_place (λ x y. (z : ℕ) × IsLeastUpper n R x y z) n k before a b level (omega (arith, earlier_place n a b (k / n) (k % n) level earlier, div-add-mod' k n)))
+    c.in_default.ensures in
     first_at_place n k within (HasNoLub n R) (λ j below less none. none (slice_index c.loop-place.bounds.items j) (each j below)) ordered c.in_default.ensures
 
 pub loop-place-preserved : goal.loop-place-preserved
@@ -26,10 +26,10 @@ loop-place-preserved c = record {
   filled = search rules;
   each = below_more _ c.loop-place.place
       (λ k below.
-          let kept : slice_index c.push.new.self.items k ≡ slice_index c.loop-place.bounds.items k = c.push.ensures.by_index.0 k 0 (omega arith) in
-          rw kept (c.loop-place.invariant.each k below))
+      let kept : slice_index c.push.new.self.items k ≡ slice_index c.loop-place.bounds.items k = c.push.ensures.by_index.0 k 0 (omega arith) in
+      rw kept (c.loop-place.invariant.each k below))
       (let last : slice_index c.push.new.self.items (vec_len c.loop-place.bounds) ≡ c.in-Some.bound = c.push.ensures.by_index.1 0 (search rules) in
-          rw (← c.loop-place.invariant.filled, last, c.loop-place.invariant.filled) c.in-Some.ensures);
+      rw (← c.loop-place.invariant.filled, last, c.loop-place.invariant.filled) c.in-Some.ensures);
 }
 
 pub returns-clause-ok : goal.returns-clause-ok

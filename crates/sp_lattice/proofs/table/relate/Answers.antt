@@ -1,4 +1,3 @@
-use Rattle.std.proofs.Common.{ℕ}
 use Rattle.sp_lattice.proofs.Entries.{entry-set}
 use Rattle.sp_lattice.proofs.table.relate.Goals as goal
 

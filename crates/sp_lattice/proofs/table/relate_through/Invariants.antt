@@ -1,4 +1,4 @@
-use Rattle.std.proofs.Common.{◌≡◌, ◌==◌, ℕ, ◌<◌, ◌&&◌, ◌||◌, nat_lt}
+use Rattle.std.proofs.Common.{◌≡◌, ℕ, ◌<◌, ◌&&◌, ◌||◌, nat_lt}
 use Rattle.sp_lattice.specs.Table.{entry}
 use Rattle.sp_lattice.proofs.table.relate_through.Given as goal
 

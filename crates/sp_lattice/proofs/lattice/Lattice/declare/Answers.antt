@@ -1,8 +1,7 @@
-use Rattle.std.proofs.Common.{◌≡◌, ℕ, ◌+◌, ◌*◌, ◌<◌, ◌≤◌, ◌↔◌, Bool, List, length, sym, rules, arith}
-use Rattle.sp_lattice.specs.Bounds.{IsPartialOrder, EachHasLub}
+use Rattle.std.proofs.Common.{◌≡◌, ℕ, ◌*◌, ◌<◌, ◌≤◌, ◌↔◌, Bool, List, length, rules, arith}
+use Rattle.sp_lattice.specs.Bounds.{IsPartialOrder}
 use Rattle.sp_lattice.specs.Closure.{IsOrdered}
-use Rattle.sp_lattice.specs.Order.{Order}
-use Rattle.sp_lattice.specs.Refusal.{IsCycle, IsFirstPair, HasNoLub, HasNoGlb, IsRefused}
+use Rattle.sp_lattice.specs.Refusal.{IsCycle, IsFirstPair, HasNoLub, IsRefused}
 use Rattle.sp_lattice.specs.Table.{IsRelated, AreLubs, IsGreatest, entry}
 use Rattle.sp_lattice.specs.declared.decl.LatticeFault.TheVariants.{NoLub, NoGlb}
 use Rattle.sp_lattice.proofs.Declared.{closed_partial, ordered_partial, ordered_lubs, opposite_partial, lub_missing, glb_missing, lubs_there, greatest_there, order_value, kept_value, only_memory}
@@ -45,9 +44,12 @@ module _ (count : ℕ) (pairs : List (ℕ × ℕ)) (table opposite : List Bool) 
   no_lub x y h = (t.few, ordered_partial count pairs table t.order t.none, lub_missing count pairs table t.order t.none h)
 
   no_glb : (bounds : List ℕ) → AreLubs count table bounds → (x y : ℕ) → IsFirstPair count (HasNoLub count (IsRelated count opposite)) x y → IsRefused count pairs (NoGlb x y)
-  no_glb bounds lubs x y h =
-      (t.few, ordered_partial count pairs table t.order t.none, ordered_lubs count pairs table t.order t.none (lubs_there count table bounds lubs),
-      glb_missing count pairs table t.order t.none opposite t.turned h)
+  no_glb bounds lubs x y h = (
+    t.few,
+    ordered_partial count pairs table t.order t.none,
+    ordered_lubs count pairs table t.order t.none (lubs_there count table bounds lubs),
+    glb_missing count pairs table t.order t.none opposite t.turned h,
+  )
 
 pub least_uppers-requires-clause-partial : goal.least_uppers-requires-clause-partial
 least_uppers-requires-clause-partial c =

@@ -2,8 +2,12 @@
 //! here takes memory, and nothing refuses but a false assertion.
 #![tactic(auto)]
 
+mod assertions;
 mod env;
-mod eval;
 
+mod evaluator;
+mod values;
+
+pub use assertions::{AssertionFalse, admissible};
 pub use env::Env;
-pub use eval::{eval, eval_new, look};
+pub use values::{eval, eval_new, level, look};

@@ -3,28 +3,32 @@ use Rattle.std.proofs.Common.{◌≡◌, refl, sym, ◌∙◌, ap, subst, arith,
 use Rattle.std.specs.Prelude.{IsTrue, slice_get, unwrap_or}
 use Rattle.std.proofs.lemmas.List.{length-map}
 use Rattle.std.proofs.lemmas.Option.{slice_get_read, slice_get_within}
+use Rattle.sp_values.specs.declared.place.Invocation.{Invocation}
 use Rattle.sp_values.specs.declared.value.Ty.{Ty}
+use Rattle.sp_values.specs.declared.value.Ty.TheVariants as ty
 use Rattle.sp_values.specs.declared.value.Value.{Value}
 use Rattle.sp_values.specs.declared.value.Value.TheVariants as value
-use Rattle.sp_values.specs.Domains.{are_values}
+use Rattle.sp_values.specs.Domains.{are_proper, are_values, is_value}
 use Rattle.sp_core.specs.declared.expr.Expr.{Expr}
 use Rattle.sp_core.specs.declared.function.Effect.{Effect}
 use Rattle.sp_core.specs.declared.function.Function.{Function}
 use Rattle.sp_core.specs.declared.function.Kind.{Kind}
 use Rattle.sp_core.specs.declared.function.Kind.TheVariants as kind
-use Rattle.sp_core.specs.Machine.{types_of}
+use Rattle.sp_core.specs.Machine.{IsInvocation, level_by, level_of, types_of}
+use Rattle.sp_core.specs.Instances.{filling_of, machine_of}
 use Rattle.sp_core.specs.Measures.{LookAt, LooksAt, Nothing, nodes, rank, rank_by, rank_of}
 use Rattle.sp_core.specs.Parts.{signature}
 use Rattle.sp_core.specs.States.{entry_of}
 use Rattle.sp_core.specs.Tree.{Tree, Trees, Const, Var, Not, Two, If, Param, Look, Every, New, none, more, tree}
-use Rattle.sp_core.specs.Values.{nothing, reads_by, value_of}
-use Rattle.sp_core.specs.WellFormed.{AreFormals, IsDerivation, IsEarlier, IsExpression, IsInitial, IsKind}
+use Rattle.sp_core.specs.Values.{level_number, nothing, reads_by, value_of}
+use Rattle.sp_core.specs.WellFormed.{AreFormals, IsDerivation, IsEarlier, IsExpression, IsInitial, IsKind, IsLevel}
 use Rattle.sp_core.proofs.Agree.{value_agrees}
-use Rattle.sp_core.proofs.Looks.{look_is, rank_below}
-use Rattle.sp_core.proofs.Types.{ordered_functions}
-use Rattle.sp_eval.specs.Conditions.{IsRead}
+use Rattle.sp_core.proofs.Looks.{look_is, rank_below, rank_small}
+use Rattle.sp_core.proofs.StatesTyped.{arguments_typed}
+use Rattle.sp_core.proofs.Types.{look_typed, ordered_functions}
+use Rattle.sp_eval.specs.Conditions.{HasItsType, HasTypeOfRead, IsRead, IsTyped}
 use Rattle.sp_eval.specs.Settings.{IsRankedBelow, IsReady, IsSetting, Setting, new_reads, old_reads, sizes, tree_value, world}
-use Rattle.sp_eval.proofs.Ready.{length_typed}
+use Rattle.sp_eval.proofs.Ready.{length_typed, level_operand, typed_value}
 
 module _ (P Q N M : ℕ → Type 0) (looks : (g : ℕ) → P g → Q g) (news : (g : ℕ) → N g → M g) where
   mutual
@@ -55,6 +59,76 @@ ready_expression s bound xs e t y few values h reads =
 
 pub few_types : (s : Setting) (f : Function) → AreFormals (signature s.parts) f.formals → length (types_of f.formals) ≤ 8
 few_types s f h = let many = length-map f.formals (λ p. p.ty) in omega (arith, many, h.few)
+
+mutual
+  looks_all : (P : ℕ → Type 0) → ((g : ℕ) → P g) → (e : Tree) → LooksAt P P e
+  looks_all P h (Const v) = tt
+  looks_all P h (Var k) = tt
+  looks_all P h (Not a) = looks_all P h a
+  looks_all P h (Two o a b) = (looks_all P h a, looks_all P h b)
+  looks_all P h (If c a b) = (looks_all P h c, looks_all P h a, looks_all P h b)
+  looks_all P h (Param p ds) = looks_all_in P h ds
+  looks_all P h (Look g ds) = (h g, looks_all_in P h ds)
+  looks_all P h (Every k t b) = looks_all P h b
+  looks_all P h (New g ds) = (h g, looks_all_in P h ds)
+
+  looks_all_in : (P : ℕ → Type 0) → ((g : ℕ) → P g) → (ds : Trees) → LookAt P P ds
+  looks_all_in P h none = tt
+  looks_all_in P h (more d ds) = (looks_all P h d, looks_all_in P h ds)
+
+-- each rank is below the number of functions and one
+pub ranked : (s : Setting) → IsSetting s → (g : ℕ) → IsRankedBelow s (length s.parts.functions + 1) g
+ranked s fine g = rank_small (world s) s.parts.functions (ordered_functions s.parts fine.well_formed) (entry_of s.old) g (slice_get s.parts.functions g) refl
+
+-- so each typed expression is ready
+pub ready_typed : (s : Setting) → IsSetting s → (x : List Value) (e : Tree) → IsTyped s.parts s.instance x e → IsReady s (length s.parts.functions + 1) x e
+ready_typed s fine x e h = record { typed = h; reads = looks_all (IsRankedBelow s (length s.parts.functions + 1)) (ranked s fine) e }
+
+pub ready_at : (s r : Setting) → s ≡ r → IsSetting s → (fs : List Function) → fs ≡ r.parts.functions → (x : List Value) (e : Tree) → IsTyped r.parts r.instance x e → IsReady s (length fs + 1) x e
+ready_at s r same fine fs q x e h =
+    subst (λ (r : Setting). (fs : List Function) → fs ≡ r.parts.functions → IsTyped r.parts r.instance x e → IsReady s (length fs + 1) x e) same
+    (λ fs q h. subst (λ fs. IsReady s (length fs + 1) x e) (sym q) (ready_typed s fine x e h)) fs q h
+
+-- and has a value of its type
+pub value_has_type : (s : Setting) → IsSetting s → (x : List Value) (e : Tree) (v : Value) → v ≡ tree_value s x e → HasItsType s.parts s.instance x e v
+value_has_type s fine x e v q xs t h =
+    subst (λ v. IsTrue (is_value (sizes s) t v)) (sym q) (typed_value s (length s.parts.functions + 1) x fine xs e t h.values h.typed (looks_all (IsRankedBelow s (length s.parts.functions + 1)) (ranked s fine) e))
+
+pub look_has_type : (s : Setting) → IsSetting s → (g : ℕ) (v : List Value) (x : Value) → x ≡ old_reads s g v → HasTypeOfRead s.parts s.instance g v x
+look_has_type s fine g v x q f t h =
+    subst (λ x. IsTrue (is_value (sizes s) t x)) (sym q) (look_typed s.parts (filling_of s.instance) fine.well_formed fine.instance.instance (entry_of s.old) fine.old g f t v tt h.function h.type h.arguments)
+
+-- the level of an invocation
+module _ (s : Setting) (fine : IsSetting s) (i : Invocation) (h : IsInvocation (machine_of s.parts (filling_of s.instance)) i) (fs : List Function) (same : fs ≡ s.parts.functions) (f : Function) (at : f ≡ get_or fs i.fun f) where
+  pub invoked_within : i.fun < length fs
+  invoked_within = subst (λ fs. i.fun < length fs) (sym same) (slice_get_within s.parts.functions i.fun h.0 h.1.function)
+
+  invoked : slice_get s.parts.functions i.fun ≡ Some f
+  invoked = ap (λ fs. slice_get fs i.fun) (sym same) ∙ slice_get_read fs (length fs) i.fun f refl invoked_within at
+
+  one : h.0 ≡ f
+  one = let some : Some h.0 ≡ Some f = sym h.1.function ∙ invoked in cc
+
+  level_fine : IsLevel (signature s.parts) (types_of f.formals) (tree f.level)
+  level_fine = (fine.well_formed.functions i.fun f invoked).level
+
+  values : IsTrue (are_values (sizes s) (types_of f.formals) i.args)
+  values = arguments_typed (sizes s) (types_of f.formals) i.args (subst (λ (f : Function). IsTrue (are_proper (sizes s) (types_of f.formals) i.args)) one h.1.arguments)
+
+  pub ready_level : (y : List Value) → y ≡ i.args → IsReady s 0 y (tree f.level)
+  ready_level y q =
+      ready_expression s 0 (types_of f.formals) (tree f.level) ty.Level y (few_types s f (fine.well_formed.functions i.fun f invoked).formals) (subst (λ y. IsTrue (are_values (sizes s) (types_of f.formals) y)) (sym q) values) level_fine.expression
+      (reads_below s 0 Nothing Nothing (λ g n. absurd n) (λ g n. absurd n) (tree f.level) level_fine.reads_nothing)
+
+  pub level_is : (y : List Value) → y ≡ i.args → (v : Value) → v ≡ tree_value s y (tree f.level) → level_number v ≡ level_of (machine_of s.parts (filling_of s.instance)) i.fun i.args
+  level_is y q v e =
+      ap level_number (e ∙ ap (λ y. tree_value s y (tree f.level)) q ∙ sym (value_agrees (world s) nothing nothing (old_reads s) (new_reads s) Nothing (λ g v n. absurd n) (tree f.level) i.args level_fine.reads_nothing))
+      ∙ sym (ap (λ o. level_by (world s) o i.args) invoked)
+
+  pub level_within : (y : List Value) → y ≡ i.args → (v : Value) → v ≡ tree_value s y (tree f.level) → level_number v < s.parts.lattice.count
+  level_within y q v e =
+      let typed = typed_value s 0 i.args fine (types_of f.formals) (tree f.level) ty.Level values level_fine.expression.typed (reads_below s 0 Nothing Nothing (λ g n. absurd n) (λ g n. absurd n) (tree f.level) level_fine.reads_nothing) in
+      level_operand (sizes s) v (subst (λ v. IsTrue (is_value (sizes s) ty.Level v)) (sym (e ∙ ap (λ y. tree_value s y (tree f.level)) q)) typed)
 
 -- a V-function stands among the functions
 pub found : (s : Setting) (g : ℕ) (v : List Value) (f : Function) (fs : List Function) → IsRead s.parts s.instance g v → fs ≡ s.parts.functions → f ≡ get_or fs g f → slice_get s.parts.functions g ≡ Some f

@@ -50,7 +50,7 @@ or_false : (a : Bool) → (a || false) ≡ true → a ≡ true
 or_false true e = refl
 or_false false e = e
 
-level_operand : (sz : Sizes) (v : Value) → is_value sz ty.Level v ≡ true → level_number v < sz.levels
+pub level_operand : (sz : Sizes) (v : Value) → is_value sz ty.Level v ≡ true → level_number v < sz.levels
 level_operand sz (value.Level l) e = (Decides-ltb l sz.levels).0 (or_false (nat_lt l sz.levels) e)
 level_operand sz (value.Truth b) e = cc
 level_operand sz (value.Int b) e = cc

@@ -35,7 +35,7 @@ fn holds_for_all(evaluator: &Evaluator, vars: &[Formal], env: &Env, body: &Expr)
 ///
 /// # Errors
 /// `AssertionFalse` with the number of the first assertion that isn't.
-pub fn admissible(spec: &Spec, inst: &Instance) -> Result<(), AssertionFalse>
+pub fn admissible<'a>(spec: &'a Spec, inst: &'a Instance) -> Result<(), AssertionFalse>
     requires { IsInstanceOf spec.now inst.now }
     ensures ok { IsOk result ↔ IsAdmissible spec.now (filling_of inst.now) }
     ensures first { IfErr result (λ fault. IsFirstFalse spec.now (filling_of inst.now) fault.0) }

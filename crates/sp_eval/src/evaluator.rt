@@ -95,7 +95,8 @@ impl<'a> Evaluator<'a> {
         new: Option<&'a State>,
     ) -> Evaluator<'a>
         requires { IsSetting (record { parts = spec.now; instance = inst.now; old = entries_in (option_copied old); new = entries_in (option_copied new) }) }
-        ensures { result ≡ record { parts = spec.now; instance = inst.now; old = entries_in (option_copied old.entry); new = entries_in (option_copied new.entry) } }
+        ensures value { result ≡ record { parts = spec.now; instance = inst.now; old = entries_in (option_copied old.entry); new = entries_in (option_copied new.entry) } }
+        ensures setting { IsSetting result }
     {
         Evaluator {
             spec,

@@ -55,7 +55,7 @@ pub fn look(spec: &Spec, inst: &Instance, state: &State, p: &Place) -> Value
 }
 
 /// The level of an invocation. No state bears on it.
-pub fn level(spec: &Spec, inst: &Instance, i: &Invocation) -> u16
+pub fn level<'a>(spec: &'a Spec, inst: &'a Instance, i: &Invocation) -> u16
     requires instance { IsInstanceOf spec.now inst.now }
     requires invocation { IsInvocation (machine_of spec.now (filling_of inst.now)) i.now }
     ensures value { result ≡ level_of (machine_of spec.now (filling_of inst.now)) i.now.fun i.now.args }

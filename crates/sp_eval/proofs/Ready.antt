@@ -77,19 +77,19 @@ operand sz op.Mul u t v h x = integer_operand sz v (subst (λ u. is_value sz u v
 operand sz op.Lub u t v h x = level_operand sz v (subst (λ u. is_value sz u v ≡ true) h.0 x)
 operand sz op.Glb u t v h x = level_operand sz v (subst (λ u. is_value sz u v ≡ true) h.0 x)
 
-at_index : {X : Type 0} (P : X → Type 0) (xs : List X) (k : ℕ) (v : X) → All P xs → slice_get xs k ≡ Some v → P v
+pub at_index : {X : Type 0} (P : X → Type 0) (xs : List X) (k : ℕ) (v : X) → All P xs → slice_get xs k ≡ Some v → P v
 at_index P [] k v a e = cc
 at_index P (u ∷ xs) zero v a e = let q : u ≡ v = cc in subst P q (All-head P u xs a)
 at_index P (u ∷ xs) (suc k) v a e = at_index P xs k v (All-tail P u xs a) e
 
-proper_at_typed : (sz : Sizes) (t : Ty) (j : ℕ) → j < population sz t → is_value sz t (proper_at t j) ≡ true
+pub proper_at_typed : (sz : Sizes) (t : Ty) (j : ℕ) → j < population sz t → is_value sz t (proper_at t j) ≡ true
 proper_at_typed sz ty.Boolean j l = refl
 proper_at_typed sz ty.Integer j l = absurd (omega (arith, l))
 proper_at_typed sz ty.Level j l = level_typed sz j l
 proper_at_typed sz (ty.Member k) j l = member_typed sz k j l
 
 -- the proper values in order
-proper_values_at : (sz : Sizes) (t : Ty) → map (proper_at t) (range_with_len 0 (population sz t)) ≡ proper_values sz t
+pub proper_values_at : (sz : Sizes) (t : Ty) → map (proper_at t) (range_with_len 0 (population sz t)) ≡ proper_values sz t
 proper_values_at sz ty.Boolean = refl
 proper_values_at sz ty.Integer = refl
 proper_values_at sz ty.Level = refl

@@ -40,10 +40,11 @@ pub fn admissible<'a>(spec: &'a Spec, inst: &'a Instance) -> Result<(), Assertio
     ensures ok { IsOk result ↔ IsAdmissible spec.now (filling_of inst.now) }
     ensures first { IfErr result (λ fault. IsFirstFalse spec.now (filling_of inst.now) fault.0) }
 {
+    let assertions = spec.assertions();
     let evaluator = Evaluator::new(spec, inst, None, None);
-    let env = Env::new(&Args::new(&[]));
-    for (index, assertion) in spec.assertions().iter().enumerate() {
-        if !holds_for_all(&evaluator, assertion.vars.items(), &env, &assertion.body) {
+    let none = Env::new(&Args::new(&[]));
+    for (index, assertion) in assertions.iter().enumerate() {
+        if !holds_for_all(&evaluator, assertion.vars.items(), &none, &assertion.body) {
             return Err(AssertionFalse(index as u32 + 1));
         }
     }

@@ -5,4 +5,4 @@ use Rattle.sp_eval.proofs.assertions.admissible.Given as goal
 
 abbrev pub invariant-loop-index : goal.invariant-loop-index
 invariant-loop-index l =
-    (j : ℕ) (a : Assertion) → j < l.index → slice_get l.fn.spec.assertions j ≡ Some a → IsAsserted (world_of l.fn.spec (filling_of l.fn.inst)) a
+    (j : ℕ) → j < l.index → (a : Assertion) → slice_get l.fn.spec.assertions j ≡ Some a → IsAsserted (world_of l.fn.spec (filling_of l.fn.inst)) a

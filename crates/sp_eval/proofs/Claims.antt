@@ -1,20 +1,20 @@
 -- A claim on all proper values of variables, variable by variable, and the assertions of a specification as such claims.
-use Rattle.std.proofs.Common.{◌≡◌, refl, sym, ◌∙◌, ap, subst, arith, ℕ, zero, suc, ◌+◌, ◌-◌, ◌<◌, ◌≤◌, Bool, true, false, List, [], ◌∷◌, ◌++◌, length, length-append, map, take, drop, get_or, Option, Some, None, append_assoc, inl, inr}
+use Rattle.std.proofs.Common.{◌≡◌, refl, sym, ◌∙◌, ap, subst, arith, ℕ, zero, suc, ◌+◌, ◌-◌, ◌<◌, ◌≤◌, Bool, true, List, [], ◌∷◌, ◌++◌, length, length-append, map, take, drop, get_or, Some, append_assoc, inl, inr}
 use Rattle.std.specs.Prelude.{IsTrue, slice_get, ◌↔◌}
 use Rattle.std.specs.List.{All, Contains, range_with_len}
 use Rattle.std.proofs.lemmas.List.{get_or_default, length-map}
 use Rattle.std.proofs.lemmas.List.Elements.{All-head, All-tail}
-use Rattle.std.proofs.lemmas.Option.{slice_get_read, slice_get_within}
+use Rattle.std.proofs.lemmas.Option.{slice_get_read}
 use Rattle.std.proofs.Math.Seq.{take-length}
 use Rattle.sp_values.specs.declared.value.Ty.{Ty}
 use Rattle.sp_values.specs.declared.value.Ty.TheVariants as ty
 use Rattle.sp_values.specs.declared.value.Value.{Value}
-use Rattle.sp_values.specs.Domains.{Sizes, are_values, is_value, proper_values}
+use Rattle.sp_values.specs.Domains.{is_value, proper_values}
 use Rattle.sp_core.specs.declared.function.Assertion.{Assertion}
 use Rattle.sp_core.specs.declared.function.Formal.{Formal}
-use Rattle.sp_core.specs.Instances.{IsAsserted, filling_of, world_of}
-use Rattle.sp_core.specs.Machine.{AreBindings, types_of}
-use Rattle.sp_core.specs.Measures.{Nothing, quantifiers}
+use Rattle.sp_core.specs.Instances.{IsAsserted}
+use Rattle.sp_core.specs.Machine.{types_of}
+use Rattle.sp_core.specs.Measures.{Nothing}
 use Rattle.sp_core.specs.Parts.{signature}
 use Rattle.sp_core.specs.Tree.{Tree, tree}
 use Rattle.sp_core.specs.Typing.{HasType, is_finite}
@@ -24,10 +24,10 @@ use Rattle.sp_core.proofs.Agree.{value_agrees}
 use Rattle.sp_core.proofs.StatesTyped.{are_values-append}
 use Rattle.sp_core.proofs.Types.{both_true}
 use Rattle.sp_core.proofs.Unique.{Contains-cons, Contains-nil, Contains-first, Contains-later}
-use Rattle.sp_eval.specs.Admissible.{HoldsForAll, IsClaim, IsFirstFalse}
-use Rattle.sp_eval.specs.Settings.{IsReady, IsSetting, Setting, new_reads, old_reads, population, proper_at, sizes, tree_value, world}
+use Rattle.sp_eval.specs.Admissible.{HoldsForAll, IsClaim}
+use Rattle.sp_eval.specs.Settings.{IsReady, Setting, new_reads, old_reads, population, proper_at, sizes, tree_value, world}
 use Rattle.sp_eval.proofs.Own.{reads_below}
-use Rattle.sp_eval.proofs.Ready.{at_index, proper_at_typed, proper_values_at}
+use Rattle.sp_eval.proofs.Ready.{proper_at_typed, proper_values_at}
 
 append_nil : {A : Type 0} (xs : List A) → xs ++ [] ≡ xs
 append_nil [] = refl
@@ -106,14 +106,16 @@ module _ (s : Setting) where
   pub claim_rest : (t : Ty) (ts : List Ty) (x : List Value) (b : Tree) (j : ℕ) → IsClaim s (t ∷ ts) x b → j < population (sizes s) t → IsClaim s ts (x ++ proper_at t j ∷ []) b
   claim_rest t ts x b j h l =
       let typed : is_value (sizes s) t (proper_at t j) ≡ true = proper_at_typed (sizes s) t j l in
-      let long : length (x ++ proper_at t j ∷ []) ≡ length x + 1 = length-append x (proper_at t j ∷ []) in
-      (h.0 ++ t ∷ [], record {
-        values = are_values-append (sizes s) h.0 (t ∷ []) x (proper_at t j ∷ []) h.1.values (both_true (is_value (sizes s) t (proper_at t j)) true typed refl);
-        finite = All-tail (λ t. IsTrue (is_finite (signature s.parts) t)) t ts h.1.finite;
-        typed = subst (λ xs. HasType (signature s.parts) xs b ty.Boolean) (sym (append_assoc h.0 (t ∷ []) ts)) h.1.typed;
-        room = omega (arith, h.1.room, long);
-        reads_nothing = h.1.reads_nothing;
-      })
+      let long : length (x ++ proper_at t j ∷ []) ≡ length x + 1 = length-append x (proper_at t j ∷ []) in (
+        h.0 ++ t ∷ [],
+        record {
+          values = are_values-append (sizes s) h.0 (t ∷ []) x (proper_at t j ∷ []) h.1.values (both_true (is_value (sizes s) t (proper_at t j)) true typed refl);
+          finite = All-tail (λ t. IsTrue (is_finite (signature s.parts) t)) t ts h.1.finite;
+          typed = subst (λ xs. HasType (signature s.parts) xs b ty.Boolean) (sym (append_assoc h.0 (t ∷ []) ts)) h.1.typed;
+          room = omega (arith, h.1.room, long);
+          reads_nothing = h.1.reads_nothing;
+        },
+      )
 
   pub claim_finite : (t : Ty) (ts : List Ty) (x : List Value) (b : Tree) → IsClaim s (t ∷ ts) x b → IsTrue (is_finite (signature s.parts) t)
   claim_finite t ts x b h = All-head (λ t. IsTrue (is_finite (signature s.parts) t)) t ts h.1.finite

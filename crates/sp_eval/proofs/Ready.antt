@@ -1,5 +1,5 @@
 -- The parts of a ready expression are ready, and their values are typed.
-use Rattle.std.proofs.Common.{◌≡◌, refl, sym, ◌∙◌, ap, subst, arith, ℕ, zero, suc, ◌+◌, ◌-◌, ◌<◌, ◌≤◌, Bool, true, false, ◌&&◌, ◌||◌, ◌==◌, nat_lt, List, [], ◌∷◌, ◌++◌, length, length-append, map, take, get_or, Option, Some, None}
+use Rattle.std.proofs.Common.{◌≡◌, refl, sym, ◌∙◌, ap, subst, arith, ℕ, zero, suc, ◌+◌, ◌-◌, ◌<◌, ◌≤◌, Bool, true, false, ◌&&◌, ◌||◌, nat_lt, List, [], ◌∷◌, ◌++◌, length, length-append, map, take, get_or, Some}
 use Rattle.std.specs.Prelude.{IsTrue, slice_get}
 use Rattle.std.specs.List.{All, list_all, range_with_len}
 use Rattle.std.proofs.lemmas.List.{length-map, length-take-le}
@@ -26,15 +26,15 @@ use Rattle.sp_core.specs.Machine.{types_of}
 use Rattle.sp_core.specs.Measures.{LookAt, LooksAt, quantifiers_in}
 use Rattle.sp_core.specs.Parts.{signature}
 use Rattle.sp_core.specs.States.{entry_of}
-use Rattle.sp_core.specs.Tree.{Tree, Trees, Not, Two, If, Param, Look, Every, New, Var, count, none, more, tree, trees_of}
-use Rattle.sp_core.specs.Typing.{HasType, HaveTypes, IsTyped as IsTypedOperator, is_type, primitive_type, read_type}
+use Rattle.sp_core.specs.Tree.{Tree, Trees, Two, Param, Look, Every, New, Var, count, none, more, tree, trees_of}
+use Rattle.sp_core.specs.Typing.{HasType, HaveTypes, IsTyped as IsTypedOperator, primitive_type, read_type}
 use Rattle.sp_core.specs.Values.{is_true, level_number}
 use Rattle.sp_core.specs.WellFormed.{IsParam}
 use Rattle.sp_core.proofs.StatesTyped.{are_values-append}
 use Rattle.sp_core.proofs.Types.{both_true, level_typed, look_typed, member_typed, value_typed, values_typed}
 use Rattle.sp_eval.specs.Conditions.{IsRead}
 use Rattle.sp_eval.specs.Settings.{AreReady, IsBody, IsOperand, IsRankedBelow, IsReady, IsSetting, Setting, new_reads, old_reads, population, proper_at, sizes, tree_value, tree_values}
-use Rattle.sp_eval.proofs.TreeLemmas.{count-trees, tree-Var, tree-Not, tree-Two, tree-If, tree-Param, tree-Look, tree-Every, tree-New}
+use Rattle.sp_eval.proofs.TreeLemmas.{count-trees, tree-Var, tree-Two, tree-Param, tree-Look, tree-Every, tree-New}
 
 pub length_typed : (sz : Sizes) (ts : List Ty) (vs : List Value) → are_values sz ts vs ≡ true → length vs ≡ length ts
 length_typed sz [] [] h = refl

@@ -1,5 +1,5 @@
 -- The tree of each form, and how many nodes it has.
-use Rattle.std.proofs.Common.{◌≡◌, refl, sym, ◌∙◌, ap, rules, arith, ℕ, suc, ◌+◌, ◌<◌, ◌≤◌, List, [], ◌∷◌, map, length, get_or, zero}
+use Rattle.std.proofs.Common.{◌≡◌, refl, sym, ◌∙◌, ap, rules, arith, ℕ, suc, ◌<◌, ◌≤◌, List, [], ◌∷◌, map, length, get_or, zero}
 use Rattle.sp_values.specs.declared.value.Value.{Value}
 use Rattle.sp_values.specs.declared.value.Ty.{Ty}
 use Rattle.sp_values.specs.declared.value.Op.{Op}
@@ -7,7 +7,7 @@ use Rattle.sp_core.specs.declared.expr.Expr.{Expr}
 use Rattle.sp_core.specs.declared.expr.Expr.TheVariants as expr
 use Rattle.sp_core.specs.declared.expr.Expr.TheFolds.{the_lemmas}
 use Rattle.sp_core.specs.Measures.{nodes, nodes_in}
-use Rattle.sp_core.specs.Tree.{Tree, Trees, Const, Var, Not, Two, If, Param, Look, Every, New, count, none, more, tree, trees_of}
+use Rattle.sp_core.specs.Tree.{Tree, Const, Var, Not, Two, If, Param, Look, Every, New, count, tree, trees_of}
 
 pub tree-Const : (v : Value) → tree (expr.Const v) ≡ Const v
 tree-Const v = search (rules, the_lemmas)

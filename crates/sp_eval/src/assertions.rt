@@ -5,8 +5,9 @@ ghost use Rattle.sp_core.specs.Tree.{tree};
 ghost use Rattle.sp_eval.specs.Admissible.{HoldsForAll, IsClaim, IsFirstFalse};
 ghost use Rattle.sp_eval.specs.Settings as setting;
 
+use crate::domains::{is_true, proper};
 use crate::env::Env;
-use crate::evaluator::{Evaluator, is_true, proper};
+use crate::evaluator::Evaluator;
 use sp_core::{Expr, Formal, Instance, Spec};
 use sp_values::Args;
 

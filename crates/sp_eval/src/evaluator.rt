@@ -14,42 +14,11 @@ ghost use Rattle.sp_eval.specs.Conditions.{IsRead};
 ghost use Rattle.sp_eval.specs.Settings as setting;
 ghost use Rattle.sp_eval.specs.Settings.{AreReady, IsBody, IsOperand, IsRankedBelow, IsReady, IsSetting, entries_in, population, proper_at, tree_value, tree_values};
 
+use crate::domains::{is_true, level_number, population, proper};
 use crate::env::Env;
 use sp_core::{Expr, Instance, Kind, Spec, State};
 use sp_values::{Args, Op, Place, Ty, Value, add, int_le, int_lt, mul, sub};
 use std::marker::Model;
-
-/// Whether it is TRUE.
-pub fn is_true(value: Value) -> bool
-    ensures { result ≡ meaning.is_true value }
-{
-    match value {
-        Value::Truth(truth) => truth,
-        _ => false,
-    }
-}
-
-/// The number of a level.
-pub fn level_number(value: Value) -> u16
-    ensures { result ≡ meaning.level_number value }
-{
-    match value {
-        Value::Level(level) => level,
-        _ => 0,
-    }
-}
-
-/// The proper value of this number.
-pub fn proper(ty: Ty, number: u16) -> Value
-    ensures { result ≡ proper_at ty number }
-{
-    match ty {
-        Ty::Boolean => Value::Truth(number != 0),
-        Ty::Integer => Value::Unknown,
-        Ty::Level => Value::Level(number),
-        Ty::Member(k) => Value::Member(k, number),
-    }
-}
 
 // The entry of the place; the initial state, which stands where there is none, has no entries.
 fn entry(state: Option<&State>, place: &Place) -> Option<Value>
@@ -106,25 +75,12 @@ impl<'a> Evaluator<'a> {
         }
     }
 
-    // The specification.
-    fn spec(&self) -> &Spec
-        ensures value { result.now ≡ self.now.parts }
-        ensures setting { IsSetting self.now }
-    {
-        self.spec
-    }
-
     /// How many proper values a type has.
     pub fn population(&self, ty: Ty) -> u16
         requires { IsTrue (is_type (signature self.now.parts) ty) }
-        ensures { result ≡ population (setting.sizes self.now) ty }
+        ensures { result ≡ setting.population (setting.sizes self.now) ty }
     {
-        match ty {
-            Ty::Boolean => 2,
-            Ty::Integer => 0,
-            Ty::Level => self.spec.lattice().count(),
-            Ty::Member(k) => self.inst.size(k),
-        }
+        population(self.spec, self.inst, ty)
     }
 
     // The value of a variable.
@@ -247,7 +203,7 @@ impl<'a> Evaluator<'a> {
         ensures { result ≡ setting.old_reads self.now place.now.fun place.now.args }
     {
         let env = Env::new(&place.args);
-        match &self.spec().functions()[place.fun as usize].kind {
+        match &self.spec.functions()[place.fun as usize].kind {
             Kind::Primitive(_, initial) => match entry(self.old, place) {
                 Some(value) => value,
                 None => self.value(0, &env, initial),

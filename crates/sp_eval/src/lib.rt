@@ -3,11 +3,12 @@
 #![tactic(auto)]
 
 mod assertions;
+mod domains;
 mod env;
-
 mod evaluator;
 mod values;
 
 pub use assertions::{AssertionFalse, admissible};
+pub use domains::{is_true, population, proper};
 pub use env::Env;
 pub use values::{eval, eval_new, level, look};

@@ -7,8 +7,9 @@ ghost use Rattle.sp_core.specs.Values as meaning;
 ghost use Rattle.sp_core.specs.Values.{value_in, value_over};
 ghost use Rattle.sp_eval.specs.Conditions.{HasItsType, HasNoNew, HasTypeOfRead, IsGiven, IsRead, IsTyped};
 
+use crate::domains::level_number;
 use crate::env::Env;
-use crate::evaluator::{Evaluator, level_number};
+use crate::evaluator::Evaluator;
 use sp_core::{Expr, Instance, Spec, State};
 use sp_values::{Invocation, Place, Value};
 

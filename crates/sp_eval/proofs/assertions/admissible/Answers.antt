@@ -24,13 +24,16 @@ holds_for_all-requires c =
 pub returns-then-not-holds_for_all-clause-first : goal.returns-then-not-holds_for_all-clause-first
 returns-then-not-holds_for_all-clause-first c =
     let there = listed c.assertions-assertions.result.now c.args.spec.now.assertions c.loop-index.index c.index-assertions-index.result c.assertions-assertions.ensures.value c.loop-index-test.true c.index-assertions-index.is in
-    let fails : HoldsForAll (world c.new-evaluator.result) (types_of c.items.result.now) c.new-none.result (tree c.index-assertions-index.result.body) → ⊥ = λ all. true≢false (sym (c.holds_for_all.ensures.1 all) ∙ c.if-not-holds_for_all.true) in
-    (c.loop-index.index, c.index-assertions-index.result, record {
-      number = refl;
-      there = there;
-      is_false = not_asserted c.new-evaluator.result _ c.new-evaluator.ensures.value c.index-assertions-index.result c.items.result.now c.items.ensures c.new-none.result (c.new-none.ensures ∙ c.new.ensures) fails;
-      earlier = λ j b l k. c.loop-index.invariant j l b k;
-    })
+    let fails : HoldsForAll (world c.new-evaluator.result) (types_of c.items.result.now) c.new-none.result (tree c.index-assertions-index.result.body) → ⊥ = λ all. true≢false (sym (c.holds_for_all.ensures.1 all) ∙ c.if-not-holds_for_all.true) in (
+      c.loop-index.index,
+      c.index-assertions-index.result,
+      record {
+        number = refl;
+        there = there;
+        is_false = not_asserted c.new-evaluator.result _ c.new-evaluator.ensures.value c.index-assertions-index.result c.items.result.now c.items.ensures c.new-none.result (c.new-none.ensures ∙ c.new.ensures) fails;
+        earlier = λ j b l k. c.loop-index.invariant j l b k;
+      },
+    )
 
 pub loop-index-preserved : goal.loop-index-preserved
 loop-index-preserved c =
@@ -40,6 +43,7 @@ loop-index-preserved c =
     (λ a k. let some : Some c.index-assertions-index.result ≡ Some a = sym there ∙ k in let one : c.index-assertions-index.result ≡ a = cc in subst (IsAsserted (world_of c.args.spec.now (filling_of c.args.inst.now))) one here)
 
 pub returns-clause-ok : goal.returns-clause-ok
-returns-clause-ok c =
-    (λ e. all_listed (IsAsserted (world_of c.args.spec.now (filling_of c.args.inst.now))) c.args.spec.now.assertions (λ k l. c.loop-index.invariant k (omega (arith, ap length c.assertions-assertions.ensures.value))),
-      λ all. refl)
+returns-clause-ok c = (
+  λ e. all_listed (IsAsserted (world_of c.args.spec.now (filling_of c.args.inst.now))) c.args.spec.now.assertions (λ k l. c.loop-index.invariant k (omega (arith, ap length c.assertions-assertions.ensures.value))),
+  λ all. refl,
+)

@@ -1,8 +1,6 @@
-use Rattle.std.proofs.Common.{◌≡◌, ◌<◌, ◌++◌, ◌∷◌, [], sym, ◌∙◌, ap, subst, arith, length, map, suc, slice_get, Some}
-use Rattle.std.proofs.lemmas.Option.{slice_get_read}
-use Rattle.sp_core.specs.Measures.{nodes, nodes_in}
+use Rattle.std.proofs.Common.{◌≡◌, ◌<◌, ◌++◌, ◌∷◌, [], sym, ◌∙◌, ap, subst, arith, length}
 use Rattle.sp_core.specs.States.{entry_of}
-use Rattle.sp_core.specs.Tree.{tree, trees_of}
+use Rattle.sp_core.specs.Tree.{tree}
 use Rattle.sp_core.specs.Values.{is_true}
 use Rattle.sp_eval.specs.Settings.{IsRankedBelow, IsSetting, proper_at, sizes, tree_value}
 use Rattle.sp_eval.specs.Conditions.{IsRead}
@@ -12,9 +10,10 @@ use Rattle.sp_eval.proofs.Own.{derivation_falls, gives_both, gives_derivation, g
 use Rattle.sp_eval.proofs.evaluator.Evaluator.+eval.Goals as goal
 
 pub arguments-value-requires : goal.arguments-value-requires
-arguments-value-requires t c =
-    (omega (arith, nodes-part c.args.parts.now c.loop-part.part-index c.part-item.result c.loop-part-test.true c.part-item.is),
-      ready_part c.args.self.now c.args.bound c.args.env.now c.args.parts.now c.loop-part.part-index c.part-item.result c.requires.ready c.loop-part-test.true c.part-item.is)
+arguments-value-requires t c = (
+  omega (arith, nodes-part c.args.parts.now c.loop-part.part-index c.part-item.result c.loop-part-test.true c.part-item.is),
+  ready_part c.args.self.now c.args.bound c.args.env.now c.args.parts.now c.loop-part.part-index c.part-item.result c.requires.ready c.loop-part-test.true c.part-item.is,
+)
 
 pub arguments-push-requires : goal.arguments-push-requires
 arguments-push-requires t c = few_values c.args.self.now c.args.bound c.args.env.now c.args.parts.now c.loop-part.part-index c.loop-part.args c.loop-part.invariant c.loop-part-test.true c.requires.few
@@ -35,36 +34,36 @@ holds_for_each-returns t c =
 
 pub look-value-requires : goal.look-value-requires
 look-value-requires t c =
-    let there = found c.args.self.now c.args.place.now.fun c.args.place.now.args c.index-functions-place.result c.functions.result.now c.requires.read (c.functions.ensures.value ∙ ap (λ p. p.functions) c.spec.ensures.value) c.index-functions-place.is in
+    let there = found c.args.self.now c.args.place.now.fun c.args.place.now.args c.index-functions-place.result c.functions.result.now c.requires.read (c.functions.ensures.value ∙ ap (λ s. s.parts.functions) c.self.view_is) c.index-functions-place.is in
     let kind = (ap (λ f. f.kind) c.index-functions-place.is ∙ c.in-Primitive.is) in
-    (omega (arith, initial_nodes c.args.self.now c.spec.ensures.setting c.args.place.now.fun c.index-functions-place.result there c.in-Primitive.field-0 c.in-Primitive.initial kind), ready_initial c.args.self.now c.spec.ensures.setting c.args.place.now.fun c.index-functions-place.result there c.in-Primitive.field-0 c.in-Primitive.initial kind c.args.place.now.args c.new-env.result c.requires.read c.new-env.ensures)
+    (omega (arith, initial_nodes c.args.self.now (subst IsSetting c.self.view_is c.self.invariant) c.args.place.now.fun c.index-functions-place.result there c.in-Primitive.field-0 c.in-Primitive.initial kind), ready_initial c.args.self.now (subst IsSetting c.self.view_is c.self.invariant) c.args.place.now.fun c.index-functions-place.result there c.in-Primitive.field-0 c.in-Primitive.initial kind c.args.place.now.args c.new-env.result c.requires.read c.new-env.ensures)
 
 pub look-value-requires-in-Derived : goal.look-value-requires-in-Derived
 look-value-requires-in-Derived t c =
-    let there = found c.args.self.now c.args.place.now.fun c.args.place.now.args c.index-functions-place.result c.functions.result.now c.requires.read (c.functions.ensures.value ∙ ap (λ p. p.functions) c.spec.ensures.value) c.index-functions-place.is in
+    let there = found c.args.self.now c.args.place.now.fun c.args.place.now.args c.index-functions-place.result c.functions.result.now c.requires.read (c.functions.ensures.value ∙ ap (λ s. s.parts.functions) c.self.view_is) c.index-functions-place.is in
     let kind = (ap (λ f. f.kind) c.index-functions-place.is ∙ c.in-Derived.is) in
-    (omega (arith, derivation_falls c.args.self.now c.spec.ensures.setting c.args.place.now.fun c.index-functions-place.result there c.in-Derived.field-0 c.in-Derived.derivation kind c.args.bound c.requires.rank), ready_derivation c.args.self.now c.spec.ensures.setting c.args.place.now.fun c.index-functions-place.result there c.in-Derived.field-0 c.in-Derived.derivation kind c.args.place.now.args c.new-env.result c.requires.read c.new-env.ensures)
+    (omega (arith, derivation_falls c.args.self.now (subst IsSetting c.self.view_is c.self.invariant) c.args.place.now.fun c.index-functions-place.result there c.in-Derived.field-0 c.in-Derived.derivation kind c.args.bound c.requires.rank), ready_derivation c.args.self.now (subst IsSetting c.self.view_is c.self.invariant) c.args.place.now.fun c.index-functions-place.result there c.in-Derived.field-0 c.in-Derived.derivation kind c.args.place.now.args c.new-env.result c.requires.read c.new-env.ensures)
 
 pub look-returns-in-None : goal.look-returns-in-None
 look-returns-in-None t c =
-    let there = found c.args.self.now c.args.place.now.fun c.args.place.now.args c.index-functions-place.result c.functions.result.now c.requires.read (c.functions.ensures.value ∙ ap (λ p. p.functions) c.spec.ensures.value) c.index-functions-place.is in
+    let there = found c.args.self.now c.args.place.now.fun c.args.place.now.args c.index-functions-place.result c.functions.result.now c.requires.read (c.functions.ensures.value ∙ ap (λ s. s.parts.functions) c.self.view_is) c.index-functions-place.is in
     let none = ap (λ s. entry_of s.old c.args.place.now.fun c.args.place.now.args) (sym c.self.view_is) ∙ sym c.entry.ensures ∙ c.in-None.is in
-    gives_initial c.args.self.now c.spec.ensures.setting c.args.place.now.fun c.index-functions-place.result there c.in-Primitive.field-0 c.in-Primitive.initial (ap (λ f. f.kind) c.index-functions-place.is ∙ c.in-Primitive.is) c.args.place.now.args c.new-env.result none c.new-env.ensures c.value.result c.value.ensures
+    gives_initial c.args.self.now (subst IsSetting c.self.view_is c.self.invariant) c.args.place.now.fun c.index-functions-place.result there c.in-Primitive.field-0 c.in-Primitive.initial (ap (λ f. f.kind) c.index-functions-place.is ∙ c.in-Primitive.is) c.args.place.now.args c.new-env.result none c.new-env.ensures c.value.result c.value.ensures
 
 pub look-returns-in-Derived : goal.look-returns-in-Derived
 look-returns-in-Derived t c =
-    let there = found c.args.self.now c.args.place.now.fun c.args.place.now.args c.index-functions-place.result c.functions.result.now c.requires.read (c.functions.ensures.value ∙ ap (λ p. p.functions) c.spec.ensures.value) c.index-functions-place.is in
-    gives_derivation c.args.self.now c.spec.ensures.setting c.args.place.now.fun c.index-functions-place.result there c.in-Derived.field-0 c.in-Derived.derivation (ap (λ f. f.kind) c.index-functions-place.is ∙ c.in-Derived.is) c.args.place.now.args c.new-env.result c.new-env.ensures c.value-in-Derived.result c.value-in-Derived.ensures
+    let there = found c.args.self.now c.args.place.now.fun c.args.place.now.args c.index-functions-place.result c.functions.result.now c.requires.read (c.functions.ensures.value ∙ ap (λ s. s.parts.functions) c.self.view_is) c.index-functions-place.is in
+    gives_derivation c.args.self.now (subst IsSetting c.self.view_is c.self.invariant) c.args.place.now.fun c.index-functions-place.result there c.in-Derived.field-0 c.in-Derived.derivation (ap (λ f. f.kind) c.index-functions-place.is ∙ c.in-Derived.is) c.args.place.now.args c.new-env.result c.new-env.ensures c.value-in-Derived.result c.value-in-Derived.ensures
 
 pub look-returns-in-Operation : goal.look-returns-in-Operation
 look-returns-in-Operation t c =
-    let there = found c.args.self.now c.args.place.now.fun c.args.place.now.args c.index-functions-place.result c.functions.result.now c.requires.read (c.functions.ensures.value ∙ ap (λ p. p.functions) c.spec.ensures.value) c.index-functions-place.is in
-    gives_operation c.args.self.now c.spec.ensures.setting c.args.place.now.fun c.index-functions-place.result there _ (ap (λ f. f.kind) c.index-functions-place.is ∙ c.in-Operation.is) c.args.place.now.args
+    let there = found c.args.self.now c.args.place.now.fun c.args.place.now.args c.index-functions-place.result c.functions.result.now c.requires.read (c.functions.ensures.value ∙ ap (λ s. s.parts.functions) c.self.view_is) c.index-functions-place.is in
+    gives_operation c.args.self.now (subst IsSetting c.self.view_is c.self.invariant) c.args.place.now.fun c.index-functions-place.result there _ (ap (λ f. f.kind) c.index-functions-place.is ∙ c.in-Operation.is) c.args.place.now.args
 
 pub look-returns-in-Both : goal.look-returns-in-Both
 look-returns-in-Both t c =
-    let there = found c.args.self.now c.args.place.now.fun c.args.place.now.args c.index-functions-place.result c.functions.result.now c.requires.read (c.functions.ensures.value ∙ ap (λ p. p.functions) c.spec.ensures.value) c.index-functions-place.is in
-    gives_both c.args.self.now c.spec.ensures.setting c.args.place.now.fun c.index-functions-place.result there _ _ (ap (λ f. f.kind) c.index-functions-place.is ∙ c.in-Both.is) c.args.place.now.args
+    let there = found c.args.self.now c.args.place.now.fun c.args.place.now.args c.index-functions-place.result c.functions.result.now c.requires.read (c.functions.ensures.value ∙ ap (λ s. s.parts.functions) c.self.view_is) c.index-functions-place.is in
+    gives_both c.args.self.now (subst IsSetting c.self.view_is c.self.invariant) c.args.place.now.fun c.index-functions-place.result there _ _ (ap (λ f. f.kind) c.index-functions-place.is ∙ c.in-Both.is) c.args.place.now.args
 
 pub value-variable-requires : goal.value-variable-requires
 value-variable-requires t c = variable_within c.args.self.now c.args.bound c.args.env.now c.in-Var.k c.args.e.now c.requires c.in-Var.is
@@ -96,10 +95,11 @@ value-arguments-args-requires-in-New t c =
     (omega (arith, nodes-New c.in-New.g c.args.e.now c.in-New.parts c.as_slice-in-New.result.now c.in-New.is c.as_slice-in-New.ensures), new_args c.args.self.now c.args.bound c.args.env.now (subst IsSetting c.self.view_is c.self.invariant) c.in-New.g c.args.e.now c.in-New.parts c.as_slice-in-New.result.now c.requires c.in-New.is c.as_slice-in-New.ensures)
 
 pub value-look-requires-in-New : goal.value-look-requires-in-New
-value-look-requires-in-New t c =
-    (omega (arith, nodes-New c.in-New.g c.args.e.now c.in-New.parts c.as_slice-in-New.result.now c.in-New.is c.as_slice-in-New.ensures),
-      subst (λ s. IsRead s.parts s.instance c.in-New.g c.arguments-args-in-New.result × IsRankedBelow s c.args.bound c.in-New.g) (sym c.after.ensures)
-      (new_place c.args.self.now c.args.bound c.args.env.now (subst IsSetting c.self.view_is c.self.invariant) c.in-New.g c.args.e.now c.in-New.parts c.as_slice-in-New.result.now c.requires c.in-New.is c.as_slice-in-New.ensures c.arguments-args-in-New.result c.arguments-args-in-New.ensures))
+value-look-requires-in-New t c = (
+  omega (arith, nodes-New c.in-New.g c.args.e.now c.in-New.parts c.as_slice-in-New.result.now c.in-New.is c.as_slice-in-New.ensures),
+  subst (λ s. IsRead s.parts s.instance c.in-New.g c.arguments-args-in-New.result × IsRankedBelow s c.args.bound c.in-New.g) (sym c.after.ensures)
+      (new_place c.args.self.now c.args.bound c.args.env.now (subst IsSetting c.self.view_is c.self.invariant) c.in-New.g c.args.e.now c.in-New.parts c.as_slice-in-New.result.now c.requires c.in-New.is c.as_slice-in-New.ensures c.arguments-args-in-New.result c.arguments-args-in-New.ensures),
+)
 
 pub value-returns-in-Every : goal.value-returns-in-Every
 value-returns-in-Every t c = every_value c.args.self.now c.args.bound c.args.env.now c.in-Every.field-0 c.in-Every.ty c.args.e.now c.in-Every.body c.get-in-Every.result.now c.requires c.in-Every.is c.get-in-Every.ensures c.holds_for_each.result c.holds_for_each.ensures

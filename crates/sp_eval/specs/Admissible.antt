@@ -1,4 +1,4 @@
--- When the assertions of an instance hold, for the test of admissibility.
+-- Which assertion of an instance is the first false one, and what the test of admissibility asks of a claim.
 use Rattle.std.specs.Prelude.{◌≡◌, ℕ, ◌+◌, ◌<◌, ◌≤◌, IsTrue, List, ◌++◌, length, slice_get, Some}
 use Rattle.std.specs.List.{All}
 use Rattle.sp_values.specs.declared.value.Ty.{Ty}

@@ -1,4 +1,5 @@
--- What expressions are evaluated over, and what the parts of an evaluation ask of one another.
+-- What expressions are evaluated over, and what the parts of the evaluator ask of one another. The numbering of proper
+-- values is for each layer that goes over them.
 use Rattle.std.specs.Prelude.{ℕ, ◌+◌, ◌<◌, ◌≤◌, not, ◌==◌, IsTrue, List, [], ◌∷◌, ◌++◌, length, Option, Some, None}
 use Rattle.sp_values.specs.declared.value.Ty.{Ty}
 use Rattle.sp_values.specs.declared.value.Ty.TheVariants as ty

@@ -1,0 +1,4 @@
+pub mod TreeLemmas
+pub mod Ready
+pub mod Own
+pub mod Claims

@@ -1,1 +1,4 @@
+pub mod Indexes
+pub mod Pigeons
 pub mod Regions
+pub mod Spellings

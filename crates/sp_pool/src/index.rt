@@ -42,10 +42,11 @@ pub fn look_up(places: &[Option<u16>], region: &Region, words: &[u32]) -> Lookup
     let start = start_of(words);
     for step in 0..PLACES {
         let place = (start + step) % PLACES;
-        match places[place] {
-            Some(number) if is_same(region.record(number as u32), words) => return Lookup::Held(number),
-            Some(_) => {}
-            None => return Lookup::Free(place),
+        let Some(number) = places[place] else {
+            return Lookup::Free(place);
+        };
+        if is_same(region.record(number as u32), words) {
+            return Lookup::Held(number);
         }
     }
     unreachable!()

@@ -1,9 +1,9 @@
 -- The index of records: what looking for words tells, and what placing a record and giving up the last one leaves.
-use Rattle.std.proofs.Common.{◌≡◌, ◌≢◌, ℕ, ◌+◌, ◌-◌, ◌*◌, ◌%◌, ◌<◌, ◌≤◌, ◌⊎◌, ⊎_elim, inl, inr, List, [], ◌∷◌, ◌++◌, Option, Some, None, length, take, set, get_or, unwrap_or, fold, refl, sym, ap, ◌∙◌, subst, arith, get_or-set_other, get_or-set_same}
+use Rattle.std.proofs.Common.{◌≡◌, ◌≢◌, ℕ, zero, suc, ◌+◌, ◌-◌, ◌*◌, ◌%◌, ◌<◌, ◌≤◌, ◌⊎◌, ⊎_elim, inl, inr, List, [], ◌∷◌, ◌++◌, Option, Some, None, replicate, length, take, set, get_or, unwrap_or, fold, refl, sym, ap, ◌∙◌, subst, arith, get_or-set_other, get_or-set_same}
 use Rattle.std.specs.List.{slice_get}
 use Rattle.std.proofs.Math.ListN.{length-set}
 use Rattle.std.proofs.lemmas.Bool.{cases_lt, cases_eq, cases_order}
-use Rattle.std.proofs.lemmas.List.{length_push, length-take-le, get_or-take, get_or_push, get_or_append_left, get_or_past}
+use Rattle.std.proofs.lemmas.List.{length-replicate, length_push, length-take-le, get_or-take, get_or_push, get_or_append_left, get_or_past}
 use Rattle.std.proofs.lemmas.Option.{none-some, same_Some, slice_get_within, get_or_from_slice_get}
 use Rattle.sp_pool.specs.Index.{start_of, place_at, number_in, IsTakenBefore, IsPlaced, IsIndex, IsNext}
 use Rattle.sp_pool.proofs.Pigeons.{pigeons}
@@ -187,3 +187,17 @@ pub standing_last : (records : List (List ℕ)) (places : List (Option ℕ)) (n 
     → IsPlaced places (get_or records n []) n
 standing_last records places n below index =
     subst (λ ws. IsPlaced places ws n) (get_or-take (n + 1) records n [] (omega arith)) (index.placed n (omega (arith, length-take-le (n + 1) records (omega arith))))
+
+-- without records all places are free
+pub empty_index : IsIndex [] (replicate 1024 None)
+empty_index = record {
+  ring = length-replicate {A = Option ℕ} 1024 None;
+  held = λ p k e. absurd (none 1024 p k e);
+  once = λ p q k e f. absurd (none 1024 p k e);
+  placed = λ k below. absurd (omega arith);
+}
+  where
+    none : (n p k : ℕ) → number_in (replicate n None) p ≡ Some k → ⊥
+    none zero p k e = none-some k e
+    none (suc n) zero k e = none-some k e
+    none (suc n) (suc p) k e = none n p k e

@@ -1,8 +1,8 @@
 -- That a node's spelling is the words written for it, and spells that node.
-use Rattle.std.proofs.Common.{◌≡◌, ℕ, zero, suc, ◌+◌, ◌-◌, ◌*◌, ◌%◌, ◌^◌, ◌<◌, ◌≤◌, ◌⊎◌, ⊎_elim, Bool, true, false, List, [], ◌∷◌, ◌++◌, length, take, map, get_or, slice_index, refl, sym, ap, ◌∙◌, subst, arith, length-append}
+use Rattle.std.proofs.Common.{◌≡◌, ℕ, zero, suc, ◌+◌, ◌-◌, ◌*◌, ◌%◌, ◌^◌, ◌<◌, ◌≤◌, ◌⊎◌, ⊎_elim, Bool, true, false, List, [], ◌∷◌, ◌++◌, length, take, map, min, get_or, slice_index, refl, sym, ap, ◌∙◌, subst, arith, length-append}
 use Rattle.std.specs.List.{range_with_len}
 use Rattle.std.proofs.lemmas.Bool.{cases_lt}
-use Rattle.std.proofs.lemmas.List.{ext_get_or, get_or-take, length-take-le, get_or-map, get_or_past}
+use Rattle.std.proofs.lemmas.List.{ext_get_or, get_or-take, length-take, length-take-le, get_or-map, get_or_past}
 use Rattle.std.proofs.lemmas.List.FromFn.{fill_by_all}
 use Rattle.sp_values.specs.declared.value.Value.TheVariants as value
 use Rattle.sp_pool.specs.declared.node.TermId.{TermId}
@@ -109,3 +109,18 @@ module _ (n : Node) (few : n.count ≤ 8) (eight : length n.args ≡ 8) where
       args : n.args ≡ read
       args = fill_by_all (λ k. term (short (slice_index (spelling n) (k + 3)))) n.args 8 (term 0) eight
           (λ k below. ap term (sym (low (arg_of n k) (small k below)) ∙ ap short (sym (arg_at k below))))
+
+-- what words spell has eight places, and as many arguments as there are words behind the first three
+pub read_eight : (words : List ℕ) → length (node_of words).args ≡ 8
+unfolding node_of
+read_eight words = refl
+
+pub read_count : (words : List ℕ) → (node_of words).count ≡ length words - 3
+unfolding node_of
+read_count words = refl
+
+-- a spelling has the head's words and one for each argument
+pub spelling_length : (n : Node) → length (spelling n) ≡ 3 + min n.count (length n.args)
+spelling_length n =
+    length-append (head_words n.head) (map (λ (t : TermId). t.0) (take n.count n.args))
+    ∙ omega (arith, ap length (head_three n.head), length_numbers (take n.count n.args), length-take n.count n.args)

@@ -1,5 +1,6 @@
 -- The index that finds a record by its words, for the pool's own calls: a ring of places, each free or with a number.
-use Rattle.std.specs.Prelude.{◌≡◌, ℕ, ◌+◌, ◌*◌, ◌%◌, ◌<◌, List, [], Option, Some, None, length, fold, slice_index_or, slice_get}
+use Rattle.std.specs.Prelude.{◌≡◌, ℕ, ◌+◌, ◌*◌, ◌%◌, ◌<◌, ◌⊎◌, ◌++◌, List, [], ◌∷◌, Option, Some, None, Result, Ok, Err, length, fold, slice_index_or, slice_get}
+use Rattle.sp_pool.specs.declared.node.Full.{Full}
 use Rattle.sp_pool.specs.declared.index.Lookup.{Lookup}
 use Rattle.sp_pool.specs.declared.index.Lookup.TheVariants.{Held, Free}
 
@@ -42,3 +43,10 @@ pub record IsNext (records : List (List ℕ)) (places : List (Option ℕ)) (word
 abbrev pub IsLookup : List (List ℕ) → List (Option ℕ) → List ℕ → Lookup → Type 0
 IsLookup records places words (Held k) = slice_get records k ≡ Some words
 IsLookup records places words (Free p) = IsNext records places words p
+
+-- what numbering a record of these words tells, and what it leaves
+abbrev pub IsNumbered : List (List ℕ) → List (List ℕ) → List ℕ → Result ℕ Full → Type 0
+IsNumbered old new words (Ok k) =
+    ((new ≡ old) × (slice_get old k ≡ Some words))
+    ⊎ (((i : ℕ) → slice_get old i ≡ Some words → ⊥) × (length old < 512) × (new ≡ old ++ words ∷ []) × (k ≡ length old))
+IsNumbered old new words (Err fault) = ((i : ℕ) → slice_get old i ≡ Some words → ⊥) × (length old ≡ 512) × (new ≡ old)

@@ -1,4 +1,5 @@
 pub mod Index
+pub mod Kept
 pub mod Nodes
 pub mod Records
 pub mod Spelling

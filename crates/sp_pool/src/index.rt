@@ -1,9 +1,11 @@
 //! The index of a region's records, by their words.
 
-ghost use Rattle.std.specs.Prelude.{◌≡◌, ◌+◌, ◌<◌, ◌≤◌, ◌↔◌, IsTrue, Some, length, take};
+ghost use Rattle.std.specs.Prelude.{◌≡◌, ◌+◌, ◌<◌, ◌≤◌, ◌↔◌, [], IfOk, IsTrue, Some, length, take};
 ghost use Rattle.sp_pool.specs.Index.{IsIndex, IsLookup, number_in, start_of};
 
 use crate::region::Region;
+use sp_text::Memory;
+use std::alloc::Global;
 
 /// How many places an index has.
 pub const PLACES: usize = 1024;
@@ -13,6 +15,13 @@ pub const PLACES: usize = 1024;
 pub enum Lookup {
     Held(u16),
     Free(usize),
+}
+
+/// The index of no records.
+pub fn empty(alloc: Global) -> Result<Vec<Option<u16>>, Memory>
+    ensures { IfOk result (λ places. IsIndex [] places.items) }
+{
+    Ok(vec![in alloc; None; PLACES]?)
 }
 
 /// The place from which a record of these words is sought.

@@ -1,3 +1,6 @@
+ghost use Rattle.std.specs.Prelude.{◌≡◌};
+ghost use Rattle.sp_pool.specs.Nodes.{truth_node};
+
 use sp_values::{Op, Value};
 
 /// A term's number in its pool.
@@ -37,4 +40,15 @@ pub struct Node {
     pub head: Head,
     pub count: u8,
     pub args: [TermId; 8],
+}
+
+/// The node of a truth value.
+pub fn truth(value: bool) -> Node
+    ensures { result ≡ truth_node value }
+{
+    Node {
+        head: Head::Const(Value::Truth(value)),
+        count: 0,
+        args: [TermId(0); 8],
+    }
 }

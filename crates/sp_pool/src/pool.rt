@@ -1,12 +1,14 @@
-ghost use Rattle.std.specs.Prelude.{◌≡◌, ℕ, ◌<◌, ◌≤◌, ◌++◌, ◌∷◌, [], length, take, true, false, IfOk, OnOk, OnErr, IfSome, IfNone};
+ghost use Rattle.std.specs.Prelude.{◌≡◌, ℕ, ◌<◌, ◌≤◌, ◌++◌, ◌∷◌, [], length, map, take, true, false, IfOk, OnOk, OnErr, IfSome, IfNone};
+ghost use Rattle.sp_pool.specs.Index.{IsIndex, IsNumbered};
+ghost use Rattle.sp_pool.specs.Kept.{IsKept};
+ghost use Rattle.sp_pool.specs.Spelling.{AreSpelled, IsTidy, node_of, spelling};
 ghost use Rattle.sp_pool.specs.Nodes.{HasNode, IsHeld, IsNode, IsPool, truth_node};
 
-use crate::index::{PLACES, Lookup, look_up, release};
-use crate::node::{Full, Head, Mark, Node, TermId};
+use crate::index::{Lookup, empty, look_up, release};
+use crate::node::{Full, Mark, Node, TermId, truth};
 use crate::region::Region;
 use crate::spelling::{Spelling, is_tidy, node_of};
 use sp_text::Memory;
-use sp_values::Value;
 use std::alloc::Global;
 use std::marker::Model;
 
@@ -22,32 +24,68 @@ pub struct Pool {
 }
 
 impl Model for Pool {
-    ghost use Rattle.std.specs.Prelude.{◌≡◌, List, map};
+    ghost use Rattle.std.specs.Prelude.{List, map};
     ghost use Rattle.sp_pool.specs.declared.node.Node.{Node};
-    ghost use Rattle.sp_pool.specs.Index.{IsIndex};
-    ghost use Rattle.sp_pool.specs.Nodes.{IsPool};
-    ghost use Rattle.sp_pool.specs.Spelling.{node_of, AreSpelled};
+    ghost use Rattle.sp_pool.specs.Kept.{IsKept};
+    ghost use Rattle.sp_pool.specs.Spelling.{node_of};
 
     ghost Value = { List Node };
 
     ghost view = { λ p. map node_of p.region.records };
 
-    ghost invariant = { λ p. IsPool (map node_of p.region.records) × AreSpelled p.region.records
-        × IsIndex p.region.records p.index.items × (p.region.most_words ≡ 6144) × (p.region.most_records ≡ 512) };
+    ghost invariant = { λ p. IsKept p.region.records p.index.items p.region.most_words p.region.most_records };
 }
 
-/// The node of a truth value.
-fn truth(value: bool) -> Node
-    ensures { result ≡ truth_node value }
+/// The number of a node among a region's records, which is the one that it has, or the next one.
+fn number(region: &mut Region, places: &mut [Option<u16>], node: &Node) -> Result<u16, Full>
+    requires tidy { IsTidy node.now }
+    requires index { IsIndex region.old.records places.old }
+    requires spelled { AreSpelled region.old.records }
+    requires sizes { (region.old.most_words ≡ 6144) × (region.old.most_records ≡ 512) }
+    requires few { length region.old.records ≤ 512 }
+    ensures number { IsNumbered region.old.records region.new.records (spelling node.now) result }
+    ensures back { node_of (spelling node.now) ≡ node.now }
+    ensures index { IsIndex region.new.records places.new }
+    ensures sizes { (region.new.most_words ≡ 6144) × (region.new.most_records ≡ 512) }
 {
-    Node {
-        head: Head::Const(Value::Truth(value)),
-        count: 0,
-        args: [TermId(0); 8],
-    }
+    let spelling = Spelling::of(node);
+    let place = match look_up(places, region, spelling.words()) {
+        Lookup::Held(number) => return Ok(number),
+        Lookup::Free(place) => place,
+    };
+    let Ok(number) = region.place(spelling.words()) else {
+        return Err(Full);
+    };
+    places[place] = Some(number as u16);
+    Ok(number as u16)
+}
+
+/// Numbers TRUE and FALSE in an empty region, which has room for them.
+fn number_truths(region: &mut Region, places: &mut [Option<u16>])
+    requires empty { region.old.records ≡ [] }
+    requires index { IsIndex region.old.records places.old }
+    requires sizes { (region.old.most_words ≡ 6144) × (region.old.most_records ≡ 512) }
+    ensures nodes { map node_of region.new.records ≡ truth_node true ∷ truth_node false ∷ [] }
+    ensures kept { IsKept region.new.records places.new region.new.most_words region.new.most_records }
+{
+    let _ = number(region, places, &truth(true));
+    let _ = number(region, places, &truth(false));
 }
 
 impl Pool {
+    /// A pool of TRUE, whose number is 0, and FALSE, whose number is 1. It takes all its room.
+    ///
+    /// # Errors
+    /// `Memory` where the room is refused.
+    pub fn new(alloc: Global) -> Result<Pool, Memory>
+        ensures { IfOk result (λ pool. pool ≡ truth_node true ∷ truth_node false ∷ []) }
+    {
+        let mut region = Region::new(alloc, MOST_WORDS, MOST_NODES)?;
+        let mut index = empty(alloc)?;
+        number_truths(&mut region, &mut index);
+        Ok(Pool { region, index })
+    }
+
     /// The number of a node, which is the one that it has, or the next one.
     ///
     /// # Errors
@@ -60,14 +98,8 @@ impl Pool {
         ensures full { OnErr result ((length self.old ≡ 512) × (¬ IsHeld self.old n) × (self.new ≡ self.old)) }
         ensures pool { IsPool self.new }
     {
-        let spelling = Spelling::of(&n);
-        let place = match look_up(&self.index, &self.region, spelling.words()) {
-            Lookup::Held(number) => return Ok(TermId(number)),
-            Lookup::Free(place) => place,
-        };
-        let number = self.region.place(spelling.words()).map_err(|_| Full)?;
-        self.index[place] = Some(number as u16);
-        Ok(TermId(number as u16))
+        let number = number(&mut self.region, &mut self.index, &n)?;
+        Ok(TermId(number))
     }
 
     /// The number of a node, if it is held.
@@ -75,10 +107,11 @@ impl Pool {
         ensures found { IfSome result (λ t. HasNode self.now t.0 n.now) }
         ensures absent { IfNone result (¬ IsHeld self.now n.now) }
     {
+        let region = &self.region;
         if !is_tidy(n) {
             return None;
         }
-        match look_up(&self.index, &self.region, Spelling::of(n).words()) {
+        match look_up(&self.index, region, Spelling::of(n).words()) {
             Lookup::Held(number) => Some(TermId(number)),
             Lookup::Free(_) => None,
         }

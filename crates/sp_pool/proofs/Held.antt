@@ -9,6 +9,7 @@ use Rattle.std.proofs.lemmas.Option.{none-some, same_Some, slice_get-map, slice_
 use Rattle.sp_pool.specs.declared.node.Node.{Node}
 use Rattle.sp_values.specs.declared.value.Value.TheVariants.{Truth}
 use Rattle.sp_pool.specs.declared.node.Full.{Full}
+use Rattle.sp_pool.specs.declared.node.Head.{Head}
 use Rattle.sp_pool.specs.declared.node.Head.TheVariants.{Const}
 use Rattle.sp_pool.specs.Index.{IsIndex, IsNumbered}
 use Rattle.sp_pool.specs.Kept.{IsKept}
@@ -195,13 +196,21 @@ second_number new one other (Ok (suc k)) apart (inl h) = absurd (none-some other
 second_number new one other (Ok k) apart (inr h) = h.2
 second_number new one other (Err fault) apart h = absurd (omega (arith, h.1))
 
+-- a node without other arguments than the first number
+pub zeros : (m k : ℕ) → (get_or (replicate m (term 0)) k (term 0)).0 ≡ 0
+zeros zero k = refl
+zeros (suc m) zero = refl
+zeros (suc m) (suc k) = zeros m k
+
+pub plain_node : (held : ℕ) (h : Head) (count : ℕ) → count ≤ 8 → (count ≡ 0) ⊎ (0 < held) → IsNode held (record { head = h; count = count; args = replicate 8 (term 0) })
+plain_node held h count few some = record {
+  few = few;
+  earlier = λ k below. ⊎_elim (λ none. absurd (omega (arith, below, none))) (λ more. omega (arith, zeros 8 k, more)) some;
+  padded = λ k past. zeros 8 k;
+}
+
 pub truth_node_is : (held : ℕ) (b : Bool) → IsNode held (truth_node b)
-truth_node_is held b = record { few = omega arith; earlier = λ k below. absurd (omega arith); padded = λ k past. zeros 8 k }
-  where
-    zeros : (m k : ℕ) → (get_or (replicate m (term 0)) k (term 0)).0 ≡ 0
-    zeros zero k = refl
-    zeros (suc m) zero = refl
-    zeros (suc m) (suc k) = zeros m k
+truth_node_is held b = plain_node held (Const (Truth b)) 0 (omega arith) (inl refl)
 
 truths_apart : truth_node true ≡ truth_node false → ⊥
 truths_apart e = let heads : Const (Truth true) ≡ Const (Truth false) = ap (λ (n : Node). n.head) e in cc

@@ -118,9 +118,12 @@ module _ (records : List (List ℕ)) (places : List (Option ℕ)) (index : IsInd
   placed_last : IsPlaced (set places p (Some (length records))) (get_or (records ++ words ∷ []) (length records) []) (length records)
   placed_last =
       let h = next.free in
-      subst (λ ws. IsPlaced (set places p (Some (length records))) ws (length records)) (sym (get_or_push records words [] (length records) refl))
-      (h.0, h.1, ap (number_in (set places p (Some (length records)))) (sym h.2) ∙ get_or-set_same places p (Some (length records)) None step_within,
-      λ t less. let there = h.4 t less in (there.0, there.1, kept (place_at words t) there.0 there.2))
+      subst (λ ws. IsPlaced (set places p (Some (length records))) ws (length records)) (sym (get_or_push records words [] (length records) refl)) (
+        h.0,
+        h.1,
+        ap (number_in (set places p (Some (length records)))) (sym h.2) ∙ get_or-set_same places p (Some (length records)) None step_within,
+        λ t less. let there = h.4 t less in (there.0, there.1, kept (place_at words t) there.0 there.2),
+      )
 
   -- placing the record
   pub added : IsIndex (records ++ words ∷ []) (set places p (Some (length records)))
@@ -132,18 +135,18 @@ module _ (records : List (List ℕ)) (places : List (Option ℕ)) (index : IsInd
         (written places p q k (Some (length records)) step_within e);
     once = λ q r k e f. ⊎_elim
         (λ (h : (q ≡ p) × (Some (length records) ≡ Some k)). ⊎_elim
-          (λ (i : (r ≡ p) × (Some (length records) ≡ Some k)). h.0 ∙ sym i.0)
-          (λ (i : (r ≡ p → ⊥) × (number_in places r ≡ Some k)). absurd (fresh r k i.1 (sym (same_Some (length records) k h.1))))
-          (written places p r k (Some (length records)) step_within f))
+        (λ (i : (r ≡ p) × (Some (length records) ≡ Some k)). h.0 ∙ sym i.0)
+        (λ (i : (r ≡ p → ⊥) × (number_in places r ≡ Some k)). absurd (fresh r k i.1 (sym (same_Some (length records) k h.1))))
+        (written places p r k (Some (length records)) step_within f))
         (λ (h : (q ≡ p → ⊥) × (number_in places q ≡ Some k)). ⊎_elim
-          (λ (i : (r ≡ p) × (Some (length records) ≡ Some k)). absurd (fresh q k h.1 (sym (same_Some (length records) k i.1))))
-          (λ (i : (r ≡ p → ⊥) × (number_in places r ≡ Some k)). index.once q r k h.1 i.1)
-          (written places p r k (Some (length records)) step_within f))
+        (λ (i : (r ≡ p) × (Some (length records) ≡ Some k)). absurd (fresh q k h.1 (sym (same_Some (length records) k i.1))))
+        (λ (i : (r ≡ p → ⊥) × (number_in places r ≡ Some k)). index.once q r k h.1 i.1)
+        (written places p r k (Some (length records)) step_within f))
         (written places p q k (Some (length records)) step_within e);
     placed = λ k below. ⊎_elim
         (λ old. placed_old k old)
         (λ past. let same : length records ≡ k = omega (arith, below, length_push records words) in
-          subst (λ i. IsPlaced (set places p (Some (length records))) (get_or (records ++ words ∷ []) i []) i) same placed_last)
+        subst (λ i. IsPlaced (set places p (Some (length records))) (get_or (records ++ words ∷ []) i []) i) same placed_last)
         (cases_lt k (length records));
   }
 
@@ -177,9 +180,12 @@ module _ (records : List (List ℕ)) (places : List (Option ℕ)) (n : ℕ) (bel
         let less : k < n = omega (arith, inside, count_less) in
         let h = index.placed k (omega (arith, less, count_more)) in
         let words : get_or (take (n + 1) records) k [] ≡ get_or (take n records) k [] = get_or-take (n + 1) records k [] (omega arith) ∙ sym (get_or-take n records k [] less) in
-        subst (λ ws. IsPlaced (set places p None) ws k) words
-        (h.0, h.1, stays (place_at (get_or (take (n + 1) records) k []) h.0) k less h.2,
-        λ t before. let found = h.3 t before in (found.0, found.1, stays (place_at (get_or (take (n + 1) records) k []) t) found.0 (omega (arith, found.1, less)) found.2));
+        subst (λ ws. IsPlaced (set places p None) ws k) words (
+          h.0,
+          h.1,
+          stays (place_at (get_or (take (n + 1) records) k []) h.0) k less h.2,
+          λ t before. let found = h.3 t before in (found.0, found.1, stays (place_at (get_or (take (n + 1) records) k []) t) found.0 (omega (arith, found.1, less)) found.2),
+        );
   }
 
 -- where the last of the first records stands

@@ -21,8 +21,8 @@ module _ (nodes : List Node) (pool : IsPool nodes) where
       ap (λ (x : Head). let r : Node = record { head = x; count = m.count; args = m.args } in r) h
       ∙ ap (λ (x : ℕ). let r : Node = record { head = n.head; count = x; args = m.args } in r) alike.0
       ∙ ap (λ (x : List TermId). let r : Node = record { head = n.head; count = n.count; args = x } in r)
-        (ext_get_or (term 0) m.args n.args (pool.eight i m a ∙ sym (pool.eight j n b)) (λ k l. ap term (⊎_elim (λ s. alike.1 k (omega arith) s)
-          (λ s. (pool.ordered i m a).padded k s ∙ sym ((pool.ordered j n b).padded k (subst (λ c. c ≤ k) alike.0 s))) (cases_lt k m.count))))
+      (ext_get_or (term 0) m.args n.args (pool.eight i m a ∙ sym (pool.eight j n b)) (λ k l. ap term (⊎_elim (λ s. alike.1 k (omega arith) s)
+      (λ s. (pool.ordered i m a).padded k s ∙ sym ((pool.ordered j n b).padded k (subst (λ c. c ≤ k) alike.0 s))) (cases_lt k m.count))))
 
   mutual
     pub one_number : (t : Tree) (i j : ℕ) → Stands nodes i t → Stands nodes j t → i ≡ j

@@ -20,7 +20,7 @@ pigeons m zero f below apart = omega arith
 pigeons zero (suc n) f below apart = absurd (omega (arith, below 0 (omega arith)))
 pigeons (suc m) (suc n) f below apart =
     more (pigeons m n (moved f m (f n)) (λ i p. moved_below f m (f n) i (below i (omega arith)) (below n (omega arith)) (last i p))
-      (λ i j p q e. apart i j (omega arith) (omega arith) (moved_apart f m (f n) i j (last i p) (last j q) e)))
+    (λ i j p q e. apart i j (omega arith) (omega arith) (moved_apart f m (f n) i j (last i p) (last j q) e)))
   where
     more : n ≤ m → suc n ≤ suc m
     more h = omega arith

@@ -111,8 +111,8 @@ module _ (words bounds : List ℕ) (are : AreBounds words bounds) where
       rising = λ k within. ⊎_elim
           (λ inner. omega (arith, kept_bound k (omega arith), kept_bound (k + 1) inner, are.rising k inner))
           (λ outer.
-            let last : k + 1 ≡ length bounds = omega (arith, length_bounds) in
-            omega (arith, kept_bound k (omega arith), bound_within k (omega arith), ap (slice_index new_bounds) last, last_bound))
+          let last : k + 1 ≡ length bounds = omega (arith, length_bounds) in
+          omega (arith, kept_bound k (omega arith), bound_within k (omega arith), ap (slice_index new_bounds) last, last_bound))
           (cases_lt (k + 1) (length bounds));
       end =
           let last : length new_bounds - 1 ≡ length bounds = omega (arith, length_bounds) in

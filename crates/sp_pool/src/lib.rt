@@ -5,14 +5,12 @@ mod index;
 mod laws;
 mod node;
 mod plain;
-
 mod pool;
 mod region;
 mod spelling;
 
 pub use laws::{one_number, one_tree};
 pub use node::{Full, Head, Mark, Node, TermId};
-
 pub use plain::PlainPool;
 pub use pool::Pool;
 pub use region::{Region, RegionFull};

@@ -1,7 +1,7 @@
 ghost use Rattle.std.specs.Prelude.{◌≡◌, ◌↔◌, ◌<◌, ◌≤◌, ◌++◌, ◌∷◌, [], length, take, true, false, IfOk, OnOk, OnErr, IfSome, IfNone, IsTrue};
 ghost use Rattle.sp_pool.specs.Nodes.{HasNode, IsHeld, IsNode, IsPool, truth_node};
 
-use crate::node::{Full, Mark, Node, TermId, truth};
+use crate::node::{Full, Head, Mark, Node, TermId, truth};
 use sp_text::Memory;
 use std::alloc::Global;
 use std::marker::Model;
@@ -27,10 +27,24 @@ impl Model for PlainPool {
     ghost invariant = { λ p. IsPool p.nodes.items × (512 ≤ vec_capacity p.nodes) };
 }
 
+fn is_same_head(head: &Head, other: &Head) -> bool
+    ensures { IsTrue result ↔ (head.now ≡ other.now) }
+{
+    head == other
+}
+
+fn are_same_args(args: &[TermId], others: &[TermId]) -> bool
+    ensures { IsTrue result ↔ (args.now ≡ others.now) }
+{
+    args == others
+}
+
 fn is_same(node: &Node, other: &Node) -> bool
     ensures { IsTrue result ↔ (node.now ≡ other.now) }
 {
-    node == other
+    is_same_head(&node.head, &other.head)
+        && node.count == other.count
+        && are_same_args(&node.args, &other.args)
 }
 
 /// The first place of a node in a list.
@@ -93,6 +107,13 @@ impl PlainPool {
             Some(i) => Some(TermId(i as u16)),
             None => None,
         }
+    }
+
+    /// How many nodes are held.
+    pub fn len(&self) -> u16
+        ensures { result ≡ length self.now }
+    {
+        self.nodes.len() as u16
     }
 
     /// As `Pool::release`.

@@ -14,6 +14,7 @@ use std::marker::Model;
 
 /// The most nodes of a pool, and the most words that they are spelled in.
 const MOST_NODES: u32 = 512;
+
 const MOST_WORDS: u32 = 6144;
 
 /// Numbered terms. Contracts see the list of their nodes, in the order of their numbers.

@@ -26,9 +26,9 @@ impl Model for Region {
     ghost Value = { Records };
 
     ghost view = { λ a. record {
-        records = records_between a.words.items a.bounds.items;
-        most_words = a.most_words;
-        most_records = a.most_records
+      records = records_between a.words.items a.bounds.items;
+      most_words = a.most_words;
+      most_records = a.most_records;
     } };
 
     ghost invariant = { λ a. IsRegion a.words.items a.bounds.items a.most_words a.most_records (vec_capacity a.words) (vec_capacity a.bounds) };

@@ -13,8 +13,8 @@ returns-in_default-clause-number c =
     let words : c.words-2.result.now ≡ c.of-spelling.result = c.words-2.ensures in
     let few : length c.words-2.result.now ≤ 11 = omega (arith, ap length words, c.of-spelling.ensures.few) in
     let full : length records < 512 → ⊥ = λ below.
-      let room = room_for records (length c.words-2.result.now) c.requires.spelled below few in
-      c.in_default.ensures.full (record { words = omega (arith, room.words, c.requires.sizes.0); one_more = omega (arith, below, c.requires.sizes.1) }) in
+    let room = room_for records (length c.words-2.result.now) c.requires.spelled below few in
+    c.in_default.ensures.full (record { words = omega (arith, room.words, c.requires.sizes.0); one_more = omega (arith, below, c.requires.sizes.1) }) in
     let count : length records ≡ 512 = ⊎_elim (λ below. absurd (full below)) (λ more. omega (arith, more, c.requires.few)) (cases_lt (length records) 512) in
     (rw (c.words.ensures, c.of-spelling.ensures.words) at c.in-Free.ensures.absent, count, ap (λ (r : Records). r.records) c.in_default.ensures.err)
 

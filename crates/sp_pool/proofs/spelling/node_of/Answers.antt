@@ -14,4 +14,4 @@ returns c =
     let ws = c.args.words.now in
     ap (λ (h : Head). let r : Node = record { head = h; count = length ws - 3; args = c.loop-place.args } in r) c.head_of.ensures
     ∙ ap (λ (ts : List TermId). let r : Node = record { head = head_of (slice_index ws 0) (slice_index ws 1) (slice_index ws 2); count = length ws - 3; args = ts } in r)
-      (fill_by_all (λ k. term (short (slice_index ws (k + 3)))) c.loop-place.args 8 (term 0) c.loop-place.invariant.eight (λ k below. c.loop-place.invariant.filled k (omega arith)))
+    (fill_by_all (λ k. term (short (slice_index ws (k + 3)))) c.loop-place.args 8 (term 0) c.loop-place.invariant.eight (λ k below. c.loop-place.invariant.filled k (omega arith)))

@@ -62,5 +62,5 @@ returns-clause-placed c =
     ap (λ (xs : List ℕ). let r : Records = record { records = records_between xs c.push.new.self.items; most_words = s.most_words; most_records = s.most_records } in r) n.0
     ∙ ap (λ (xs : List ℕ). let r : Records = record { records = records_between (s.words.items ++ c.args.words.now) xs; most_words = s.most_words; most_records = s.most_records } in r) n.1
     ∙ ap (λ (rs : List (List ℕ)). let r : Records = record { records = rs; most_words = s.most_words; most_records = s.most_records } in r)
-      (placed_records s.words.items s.bounds.items c.self.invariant.bounds_are c.args.words.now)
+    (placed_records s.words.items s.bounds.items c.self.invariant.bounds_are c.args.words.now)
     ∙ ap (λ (v : Records). let r : Records = record { records = v.records ++ c.args.words.now ∷ []; most_words = v.most_words; most_records = v.most_records } in r) c.self.view_is

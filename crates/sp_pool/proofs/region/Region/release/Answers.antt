@@ -52,5 +52,5 @@ returns c =
     ap (λ (xs : List ℕ). let r : Records = record { records = records_between xs c.truncate.new.self.items; most_words = s.most_words; most_records = s.most_records } in r) words
     ∙ ap (λ (xs : List ℕ). let r : Records = record { records = records_between (take (slice_index s.bounds.items c.args.k) s.words.items) xs; most_words = s.most_words; most_records = s.most_records } in r) c.truncate.ensures.items
     ∙ ap (λ (rs : List (List ℕ)). let r : Records = record { records = rs; most_words = s.most_words; most_records = s.most_records } in r)
-      (kept_records s.words.items s.bounds.items c.self.invariant.bounds_are c.args.k held)
+    (kept_records s.words.items s.bounds.items c.self.invariant.bounds_are c.args.k held)
     ∙ ap (λ (v : Records). let r : Records = record { records = take c.args.k v.records; most_words = v.most_words; most_records = v.most_records } in r) c.self.view_is

@@ -34,7 +34,7 @@ words_are c =
     let head = c.head_words.ensures.words in
     ap (λ m. take (3 + m) c.loop-place.words) c.from-2.ensures
     ∙ spelled n c.requires.few eight c.loop-place.words (omega (arith, h.twelve)) (h.tag ∙ ap (λ ws. slice_index ws 0) head) (h.first ∙ ap (λ ws. slice_index ws 1) head)
-      (h.second ∙ ap (λ ws. slice_index ws 2) head) (λ k below. h.args k (omega (arith, below, c.loop-place-test.false)))
+    (h.second ∙ ap (λ ws. slice_index ws 2) head) (λ k below. h.args k (omega (arith, below, c.loop-place-test.false)))
 
 pub returns-clause-words : goal.returns-clause-words
 returns-clause-words c = words_are (goal.at.returns-clause-words c).After-from-2

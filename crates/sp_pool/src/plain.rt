@@ -1,13 +1,10 @@
 ghost use Rattle.std.specs.Prelude.{◌≡◌, ◌↔◌, ◌<◌, ◌≤◌, ◌++◌, ◌∷◌, [], length, take, true, false, IfOk, OnOk, OnErr, IfSome, IfNone, IsTrue};
 ghost use Rattle.sp_pool.specs.Nodes.{HasNode, IsHeld, IsNode, IsPool, truth_node};
 
-use crate::node::{Full, Head, Mark, Node, TermId, truth};
+use crate::node::{Full, Head, MOST_NODES, Mark, Node, TermId, truth};
 use sp_text::Memory;
 use std::alloc::Global;
 use std::marker::Model;
-
-/// The most nodes of a pool.
-const MOST_NODES: usize = 512;
 
 /// A pool as a list that is looked through from the front, with the contract of `Pool`, to compare that with.
 #[derive(Drop)]
@@ -68,7 +65,7 @@ impl PlainPool {
     pub fn new(alloc: Global) -> Result<PlainPool, Memory>
         ensures { IfOk result (λ pool. pool ≡ truth_node true ∷ truth_node false ∷ []) }
     {
-        let mut nodes = Vec::with_capacity(alloc, MOST_NODES)?;
+        let mut nodes = Vec::with_capacity(alloc, MOST_NODES as usize)?;
         nodes.push(truth(true))?;
         nodes.push(truth(false))?;
         Ok(PlainPool { nodes })
@@ -89,7 +86,7 @@ impl PlainPool {
             return Ok(TermId(i as u16));
         }
         let count = self.nodes.len();
-        if count == MOST_NODES {
+        if count == MOST_NODES as usize {
             return Err(Full);
         }
         if self.nodes.push(n).is_err() {

@@ -5,17 +5,15 @@ ghost use Rattle.sp_pool.specs.Spelling.{AreSpelled, IsTidy, node_of, spelling};
 ghost use Rattle.sp_pool.specs.Nodes.{HasNode, IsHeld, IsNode, IsPool, truth_node};
 
 use crate::index::{Lookup, empty, look_up, release};
-use crate::node::{Full, Mark, Node, TermId, truth};
+use crate::node::{Full, MOST_NODES, Mark, Node, TermId, truth};
 use crate::region::Region;
 use crate::spelling::{Spelling, is_tidy, node_of};
 use sp_text::Memory;
 use std::alloc::Global;
 use std::marker::Model;
 
-/// The most nodes of a pool, and the most words that they are spelled in.
-const MOST_NODES: u32 = 512;
-
-const MOST_WORDS: u32 = 6144;
+/// Room for the words of the nodes, at most twelve for each.
+const ROOM: u32 = 6144;
 
 /// Numbered terms. Contracts see the list of their nodes, in the order of their numbers.
 #[derive(Drop)]
@@ -81,7 +79,7 @@ impl Pool {
     pub fn new(alloc: Global) -> Result<Pool, Memory>
         ensures { IfOk result (λ pool. pool ≡ truth_node true ∷ truth_node false ∷ []) }
     {
-        let mut region = Region::new(alloc, MOST_WORDS, MOST_NODES)?;
+        let mut region = Region::new(alloc, ROOM, MOST_NODES)?;
         let mut index = empty(alloc)?;
         number_truths(&mut region, &mut index);
         Ok(Pool { region, index })

@@ -44,29 +44,37 @@ fn a_full_pool_gives_up_its_last_terms(rt: HostRuntime) -> Result<(), Fail> {
     Ok(())
 }
 
+/// Whether both pools answer the same of a head without arguments.
+fn answer_alike(pool: &mut Pool, plain: &mut PlainPool, head: Head) -> bool {
+    let found = pool.find(&leaf(head)) == plain.find(&leaf(head));
+    intern(pool, head) == intern_plain(plain, head) && found
+}
+
+/// Heads of several forms, some of which come again and again.
+fn head_of(k: u16) -> Head {
+    match k % 5 {
+        0 => Head::Const(Value::Int(i64::from(k) - 1024)),
+        1 => Head::Const(Value::Int(i64::MIN + i64::from(k % 10))),
+        2 => Head::Const(Value::Member(k, k / 2)),
+        3 => Head::Look(k % 7 * 1024 + k),
+        _ => Head::Two(Op::Glb),
+    }
+}
+
 #[test]
 fn both_pools_answer_alike(rt: HostRuntime) -> Result<(), Fail> {
     let mut pool = Pool::new(rt.alloc())?;
     let mut plain = PlainPool::new(rt.alloc())?;
-    for round in 0..3 {
-        for number in [i64::MIN, -1, 1024, i64::MAX, -1, 0] {
-            let head = Head::Const(Value::Int(number));
-            assert_eq!(rt; pool.find(&leaf(head)), plain.find(&leaf(head)), "{number} in {round}");
-            let same = intern(&mut pool, head) == intern_plain(&mut plain, head);
-            assert!(rt; same, "{number} in {round}");
+    for k in 0..900 {
+        assert!(rt;
+            answer_alike(&mut pool, &mut plain, head_of(k % 450)),
+            "at {k}"
+        );
+        if k % 300 == 299 {
+            assert!(rt; pool.len() >= 100 && plain.len() >= 100);
+            pool.release(Mark(100));
+            plain.release(Mark(100));
         }
-        for k in 0..300 {
-            let head = Head::Look(k % 7 * 1024 + k);
-            let same = intern(&mut pool, head) == intern_plain(&mut plain, head);
-            assert!(rt; same, "{k} in {round}");
-        }
-        for head in [Head::Const(Value::Member(1, 2)), Head::Not, Head::Two(Op::Glb), Head::If] {
-            let same = intern(&mut pool, head) == intern_plain(&mut plain, head);
-            assert!(rt; same, "in {round}");
-        }
-        assert!(rt; pool.len() >= 100 && plain.len() >= 100);
-        pool.release(Mark(100));
-        plain.release(Mark(100));
     }
     Ok(())
 }
@@ -74,7 +82,9 @@ fn both_pools_answer_alike(rt: HostRuntime) -> Result<(), Fail> {
 #[test]
 fn a_term_is_read_back(rt: HostRuntime) -> Result<(), Fail> {
     let mut pool = Pool::new(rt.alloc())?;
-    let term = intern(&mut pool, Head::Two(Op::LevelLe)).ok().ok_or("full")?;
+    let term = intern(&mut pool, Head::Two(Op::LevelLe))
+        .ok()
+        .ok_or("full")?;
     assert_eq!(rt; term, TermId(2));
     assert_eq!(rt; pool.mark(), Mark(3));
     assert!(rt; pool.len() == 3);

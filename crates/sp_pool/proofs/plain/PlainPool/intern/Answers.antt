@@ -10,7 +10,7 @@ invariant_of-self c =
     let eight : length c.args.n.args ≡ 8 = search rules in
     let fresh : IsHeld xs c.args.n → ⊥ = rw c.deref.ensures.value at c.in_default.ensures.absent in
     let len : c.len-count.result ≡ length xs = c.len-count.ensures ∙ c.self.inside.nodes.ok.0 in
-    let room : length xs < 512 = grind (arith, c.self.invariant.0.few, len, c.if-count-eq-MOST_NODES.false) in
+    let room : length xs < 512 = grind (arith, c.self.invariant.0.few, len, c.if-count.false) in
     let items : c.push.new.self.items ≡ xs ++ c.args.n ∷ [] = search rules in
     (rw items (pool_more xs c.self.invariant.0 (two c.self.invariant.0) c.args.n fine eight fresh room), omega (arith, c.self.invariant.1, c.push.ensures.capacity))
 

@@ -1,0 +1,8 @@
+use Rattle.std.proofs.Common.{◌≡◌, List, [], ℕ, Option, None, replicate, sym, ap, ◌∙◌, rules}
+use Rattle.sp_pool.proofs.Indexes.{empty_index}
+use Rattle.sp_pool.proofs.index.empty.Goals as goal
+
+pub returns : goal.returns
+returns c =
+    let places : c.in_ok-vec.field-0.items ≡ replicate 1024 None = c.in_ok-vec.ensures.items_if_clones_equal (λ y e. search rules) in
+    rw places empty_index

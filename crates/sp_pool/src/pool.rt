@@ -1,0 +1,151 @@
+ghost use Rattle.std.specs.Prelude.{◌≡◌, ℕ, ◌<◌, ◌≤◌, ◌++◌, ◌∷◌, [], length, map, take, true, false, IfOk, OnOk, OnErr, IfSome, IfNone};
+ghost use Rattle.sp_pool.specs.Index.{IsIndex, IsNumbered};
+ghost use Rattle.sp_pool.specs.Kept.{IsKept};
+ghost use Rattle.sp_pool.specs.Spelling.{AreSpelled, IsTidy, node_of, spelling};
+ghost use Rattle.sp_pool.specs.Nodes.{HasNode, IsHeld, IsNode, IsPool, truth_node};
+
+use crate::index::{Lookup, empty, look_up, release};
+use crate::node::{Full, MOST_NODES, Mark, Node, TermId, truth};
+use crate::region::Region;
+use crate::spelling::{Spelling, is_tidy, node_of};
+use sp_text::Memory;
+use std::alloc::Global;
+use std::marker::Model;
+
+/// Room for the words of the nodes, at most twelve for each.
+const ROOM: u32 = 6144;
+
+/// Numbered terms. Contracts see the list of their nodes, in the order of their numbers.
+#[derive(Drop)]
+pub struct Pool {
+    region: Region,
+    index: Vec<Option<u16>>,
+}
+
+impl Model for Pool {
+    ghost use Rattle.std.specs.Prelude.{List, map};
+    ghost use Rattle.sp_pool.specs.declared.node.Node.{Node};
+    ghost use Rattle.sp_pool.specs.Kept.{IsKept};
+    ghost use Rattle.sp_pool.specs.Spelling.{node_of};
+
+    ghost Value = { List Node };
+
+    ghost view = { λ p. map node_of p.region.records };
+
+    ghost invariant = { λ p. IsKept p.region.records p.index.items p.region.most_words p.region.most_records };
+}
+
+/// The number of a node among a region's records, which is the one that it has, or the next one.
+fn number(region: &mut Region, places: &mut [Option<u16>], node: &Node) -> Result<u16, Full>
+    requires tidy { IsTidy node.now }
+    requires index { IsIndex region.old.records places.old }
+    requires spelled { AreSpelled region.old.records }
+    requires sizes { (region.old.most_words ≡ 6144) × (region.old.most_records ≡ 512) }
+    requires few { length region.old.records ≤ 512 }
+    ensures number { IsNumbered region.old.records region.new.records (spelling node.now) result }
+    ensures back { node_of (spelling node.now) ≡ node.now }
+    ensures index { IsIndex region.new.records places.new }
+    ensures sizes { (region.new.most_words ≡ 6144) × (region.new.most_records ≡ 512) }
+{
+    let spelling = Spelling::of(node);
+    let place = match look_up(places, region, spelling.words()) {
+        Lookup::Held(number) => return Ok(number),
+        Lookup::Free(place) => place,
+    };
+    let Ok(number) = region.place(spelling.words()) else {
+        return Err(Full);
+    };
+    places[place] = Some(number as u16);
+    Ok(number as u16)
+}
+
+/// Numbers TRUE and FALSE in an empty region, which has room for them.
+fn number_truths(region: &mut Region, places: &mut [Option<u16>])
+    requires empty { region.old.records ≡ [] }
+    requires index { IsIndex region.old.records places.old }
+    requires sizes { (region.old.most_words ≡ 6144) × (region.old.most_records ≡ 512) }
+    ensures nodes { map node_of region.new.records ≡ truth_node true ∷ truth_node false ∷ [] }
+    ensures kept { IsKept region.new.records places.new region.new.most_words region.new.most_records }
+{
+    let _ = number(region, places, &truth(true));
+    let _ = number(region, places, &truth(false));
+}
+
+impl Pool {
+    /// A pool of TRUE, whose number is 0, and FALSE, whose number is 1. It takes all its room.
+    ///
+    /// # Errors
+    /// `Memory` where the room is refused.
+    pub fn new(alloc: Global) -> Result<Pool, Memory>
+        ensures { IfOk result (λ pool. pool ≡ truth_node true ∷ truth_node false ∷ []) }
+    {
+        let mut region = Region::new(alloc, ROOM, MOST_NODES)?;
+        let mut index = empty(alloc)?;
+        number_truths(&mut region, &mut index);
+        Ok(Pool { region, index })
+    }
+
+    /// The number of a node, which is the one that it has, or the next one.
+    ///
+    /// # Errors
+    /// `Full` exactly where 512 nodes are held and this one is none of them; the pool is then as before.
+    pub fn intern(&mut self, n: Node) -> Result<TermId, Full>
+        requires { IsNode (length self.old) n }
+        ensures here { IfOk result (λ t. HasNode self.new t.0 n) }
+        ensures held { IsHeld self.old n → self.new ≡ self.old }
+        ensures next { ¬ IsHeld self.old n → OnOk result ((length self.old < 512) × (self.new ≡ self.old ++ n ∷ [])) }
+        ensures full { OnErr result ((length self.old ≡ 512) × (¬ IsHeld self.old n) × (self.new ≡ self.old)) }
+        ensures pool { IsPool self.new }
+    {
+        let number = number(&mut self.region, &mut self.index, &n)?;
+        Ok(TermId(number))
+    }
+
+    /// The number of a node, if it is held.
+    pub fn find(&self, n: &Node) -> Option<TermId>
+        ensures found { IfSome result (λ t. HasNode self.now t.0 n.now) }
+        ensures absent { IfNone result (¬ IsHeld self.now n.now) }
+    {
+        let region = &self.region;
+        if !is_tidy(n) {
+            return None;
+        }
+        match look_up(&self.index, region, Spelling::of(n).words()) {
+            Lookup::Held(number) => Some(TermId(number)),
+            Lookup::Free(_) => None,
+        }
+    }
+
+    /// The node of a held number.
+    pub fn node(&self, t: TermId) -> Node
+        requires { t.0 < length self.now }
+        ensures { HasNode self.now t.0 result }
+    {
+        node_of(self.region.record(t.0 as u32))
+    }
+
+    /// How many nodes are held.
+    pub fn len(&self) -> u16
+        ensures len { result ≡ length self.now }
+        ensures pool { IsPool self.now }
+    {
+        self.region.count() as u16
+    }
+
+    /// Where the pool stands now.
+    pub fn mark(&self) -> Mark
+        ensures { result.0 ≡ length self.now }
+    {
+        Mark(self.len())
+    }
+
+    /// Keeps the nodes of the numbers below the mark and no other.
+    pub fn release(&mut self, m: Mark)
+        requires two { 2 ≤ m.0 }
+        requires held { m.0 ≤ length self.old }
+        ensures { self.new ≡ take m.0 self.old }
+    {
+        release(&mut self.index, &self.region, m.0);
+        self.region.release(m.0 as u32);
+    }
+}

@@ -7,12 +7,15 @@ use std::test::Fail;
 const INTERFACE: &[u8] = b"INTERFACE m MODULES m; LATTICE LOW;
 LEVEL a() IS LOW; LEVEL b() IS LOW; LEVEL swap() IS LOW;
 SAMPLE s; END_INTERFACE";
+
 const MODULE: &[u8] = b"MODULE m FUNCTIONS
 VFUN a() -> INTEGER; INITIALLY 1;
 VFUN b() -> INTEGER; INITIALLY 2;
 OFUN swap(); EFFECTS 'a() = b(); 'b() = a();
 END_MODULE";
+
 const INSTANCE: &[u8] = b"INSTANCE s END_INSTANCE";
+
 const SWAP: [&str; 4] = ["run", "m.iface", "s.inst", "s.script"];
 
 // The status of a run with this script, and what it wrote.
@@ -67,7 +70,12 @@ fn a_refusal_is_one_line(rt: HostRuntime) -> Result<(), Fail> {
     let rows: [(&[&str], &[u8], u8, &[u8]); 5] = [
         (&["run", "m.iface", "s.inst"], b"", 3, b"WORDS\n"),
         (&["run", "m.iface", "-s", "s.script"], b"", 3, b"WORDS\n"),
-        (&["run", "none.iface", "a", "b"], b"", 4, b"MISSING none.iface\n"),
+        (
+            &["run", "none.iface", "a", "b"],
+            b"",
+            4,
+            b"MISSING none.iface\n",
+        ),
         (&SWAP, b"swap()", 2, b"MALFORMED s.script 0 6 Unbuilt\n"),
         (&SWAP, b"c();", 2, b"MALFORMED s.script 0 4 Unbuilt\n"),
     ];

@@ -4,12 +4,11 @@ use Rattle.std.specs.Prelude.{IfSome}
 use Rattle.sp_text.specs.declared.token.TokenKind.{TokenKind}
 use Rattle.sp_outside.specs.Files.{Files}
 use Rattle.sp_outside.specs.Written.{Appends}
-use Rattle.sp_driver.specs.Lines.{missing_line, too_long_line}
 use Rattle.sp_driver.specs.Report.{CommandComesTo, ComesTo, IsReport, ReportOf}
 use Rattle.sp_driver.specs.Run.{AnswersWhere, IsDetermined, MeetsMissing, MeetsTooLong, Reported}
 use Rattle.sp_driver.specs.RunCommand.{JudgedReport, RunComesTo, RunReport, WorkComesTo, WorkReport}
 use Rattle.sp_driver.specs.Status.{IsFailure, is_reported}
-use Rattle.sp_driver.specs.Steps.{IsMissing, IsTooLong, LoadRefused}
+use Rattle.sp_driver.specs.Steps.{LoadRefused}
 use Rattle.sp_driver.specs.System.{PartsComeTo, PartsRefused, SystemComesTo, SystemRefused}
 use Rattle.sp_driver.specs.Texts.{ReadRefused}
 use Rattle.sp_driver.specs.Words.{Command, command_of, run}

@@ -1,8 +1,8 @@
 -- Words and files have at most one report: work in steps has one, where each step has one outcome.
-use Rattle.std.proofs.Common.{◌≡◌, ◌⊎◌, ◌∙◌, ℕ, List, Option, Some, None, inl, inr, sym, subst, ap, length, arith}
+use Rattle.std.proofs.Common.{◌≡◌, ◌∙◌, ℕ, List, Option, Some, None, inl, inr, sym, subst, ap, length, arith}
 use Rattle.sp_text.specs.declared.token.TokenKind.{TokenKind}
 use Rattle.sp_lexer.proofs.Unique.{same_tokens}
-use Rattle.sp_outside.specs.Files.{Files, first_file}
+use Rattle.sp_outside.specs.Files.{Files}
 use Rattle.sp_driver.specs.Lines.{words_line}
 use Rattle.sp_driver.specs.Report.{CommandReport, IsReport, ReportOf}
 use Rattle.sp_driver.specs.RunCommand.{AnsweredReport, JudgedReport, RunReport, WorkReport}

@@ -1,5 +1,5 @@
 -- No tokens of a small form spell two trees.
-use Rattle.std.proofs.Common.{◌≡◌, ◌∙◌, ◌++◌, ℕ, List, [], ◌∷◌, ap, append_assoc, append-nil, refl, sym}
+use Rattle.std.proofs.Common.{◌≡◌, ◌∙◌, ◌++◌, ℕ, List, [], ◌∷◌, ap, append_assoc, refl, sym}
 use Rattle.std.specs.List.{flat_map}
 use Rattle.sp_text.specs.declared.token.TokenKind.{TokenKind}
 use Rattle.sp_text.specs.declared.token.TokenKind.TheVariants as kind

@@ -1,4 +1,4 @@
-use Rattle.std.proofs.Common.{refl, subst}
+use Rattle.std.proofs.Common.{subst}
 use Rattle.sp_driver.specs.Early.{IfRefused}
 use Rattle.sp_driver.specs.Steps.{LoadGives, LoadRefused}
 use Rattle.sp_driver.specs.Texts.{TreeRefused}

@@ -1,4 +1,4 @@
-use Rattle.std.proofs.Common.{Ok, refl}
+use Rattle.std.proofs.Common.{Ok}
 use Rattle.sp_driver.specs.RunCommand.{JudgedReport}
 use Rattle.sp_driver.specs.SmallTexts.{instance_spelling, script_spelling}
 use Rattle.sp_driver.specs.Steps.{Then}

@@ -3,5 +3,6 @@ pub mod Looks
 pub mod Unique
 pub mod Steps
 pub mod Types
+pub mod StatesTyped
 pub mod InstanceLemmas
 pub mod StateLemmas

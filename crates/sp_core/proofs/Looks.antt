@@ -6,23 +6,11 @@ use Rattle.sp_values.specs.declared.value.Value.{Value}
 use Rattle.sp_core.specs.declared.function.Function.{Function}
 use Rattle.sp_core.specs.declared.function.Kind.{Kind}
 use Rattle.sp_core.specs.declared.function.Kind.TheVariants as kind
-use Rattle.sp_core.specs.Measures.{LooksAt, Nothing}
+use Rattle.sp_core.specs.Measures.{LooksAt, Nothing, rank, rank_by, rank_of}
 use Rattle.sp_core.specs.Tree.{tree}
 use Rattle.sp_core.specs.Values.{World, Reads, Store, look, reads_by, reads_under}
 use Rattle.sp_core.specs.WellFormed.{IsEarlier, IsEarlierAs}
 use Rattle.sp_core.proofs.Agree.{value_agrees}
-
--- 0 for a function that isn't derived, and for a derived one its number and 1
-abbrev pub rank_by : ℕ → Kind → ℕ
-rank_by g (kind.Derived t e) = g + 1
-rank_by g k = 0
-
-abbrev pub rank_of : ℕ → Option Function → ℕ
-rank_of g None = 0
-rank_of g (Some f) = rank_by g f.kind
-
-abbrev pub rank : List Function → ℕ → ℕ
-rank fs g = rank_of g (slice_get fs g)
 
 -- a derivation looks only at earlier derived functions and at primitive ones
 abbrev pub IsOrderedAs : List Function → ℕ → Kind → Type 0

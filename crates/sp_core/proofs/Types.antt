@@ -23,24 +23,24 @@ use Rattle.sp_core.specs.declared.function.Param.{Param as Parameter}
 use Rattle.sp_core.specs.declared.function.TypeInfo.{TypeInfo}
 use Rattle.sp_core.specs.Instances.{Filling, IsInstance, machine_of, row_value, sizes_of, table_value, world_of}
 use Rattle.sp_core.specs.Machine.{IsState, types_of}
-use Rattle.sp_core.specs.Measures.{LookAt, LooksAt, Anything, Nothing}
+use Rattle.sp_core.specs.Measures.{LookAt, LooksAt, Anything, Nothing, rank, rank_by, rank_of}
 use Rattle.sp_core.specs.Parts.{Parts, signature}
 use Rattle.sp_core.specs.Tree.{Tree, Trees, Const, Var, Not, Two, If, Param, Look, Every, New, none, more, tree}
 use Rattle.sp_core.specs.Typing.{HasType, HaveTypes, IsTyped, declared_members, is_constant, primitive_type, read_type}
 use Rattle.sp_core.specs.Values.{Reads, Store, level_number, is_true, look, nothing, nth, reads_by, two, value_of, values_of}
 use Rattle.sp_core.specs.WellFormed.{IsEarlier, IsKind, IsWellFormed}
-use Rattle.sp_core.proofs.Looks.{AreOrdered, IsOrderedAs, look_is, rank, rank_below, rank_by, rank_of}
+use Rattle.sp_core.proofs.Looks.{AreOrdered, IsOrderedAs, look_is, rank_below}
 
-and_true : (a b : Bool) → (a && b) ≡ true → (a ≡ true) × (b ≡ true)
+pub and_true : (a b : Bool) → (a && b) ≡ true → (a ≡ true) × (b ≡ true)
 and_true true true e = (refl, refl)
 and_true true false e = (refl, e)
 and_true false b e = cc
 
-both_true : (a b : Bool) → a ≡ true → b ≡ true → (a && b) ≡ true
+pub both_true : (a b : Bool) → a ≡ true → b ≡ true → (a && b) ≡ true
 both_true true b p q = q
 both_true false b p q = p
 
-or_left : (a b : Bool) → a ≡ true → (a || b) ≡ true
+pub or_left : (a b : Bool) → a ≡ true → (a || b) ≡ true
 or_left true b e = refl
 or_left false b e = cc
 
@@ -75,7 +75,7 @@ level_below sz (value.Int b) e = cc
 level_below sz (value.Member k b) e = cc
 level_below sz value.Unknown e = cc
 
-level_typed : (sz : Sizes) (l : ℕ) → l < sz.levels → is_value sz ty.Level (value.Level l) ≡ true
+pub level_typed : (sz : Sizes) (l : ℕ) → l < sz.levels → is_value sz ty.Level (value.Level l) ≡ true
 level_typed sz l h = or_left (nat_lt l sz.levels) (false && false) ((Decides-ltb l sz.levels).1 h)
 
 variable_typed : (sz : Sizes) (xs : List Ty) (x : List Value) (k : ℕ) (t : Ty) → are_values sz xs x ≡ true → slice_get xs k ≡ Some t → is_value sz t (nth x k) ≡ true
@@ -97,7 +97,7 @@ row_typed : (sz : Sizes) (t : Ty) (rows : List (List Value × Value)) (other : V
 row_typed sz t [] other v a o = o
 row_typed sz t (r ∷ rows) other v a o = if_typed sz (same_values r.0 v) t r.1 (row_value rows other v) (All-head (λ r. IsTrue (is_value sz t r.1)) r rows a) (row_typed sz t rows other v (All-tail (λ r. IsTrue (is_value sz t r.1)) r rows a) o)
 
-member_typed : (sz : Sizes) (k m : ℕ) → m < sz.members k → is_value sz (ty.Member k) (value.Member k m) ≡ true
+pub member_typed : (sz : Sizes) (k m : ℕ) → m < sz.members k → is_value sz (ty.Member k) (value.Member k m) ≡ true
 member_typed sz k m l = or_left ((k == k) && nat_lt m (sz.members k)) (true && false) (both_true (k == k) (nat_lt m (sz.members k)) ((Decides-eqb k k).1 refl) ((Decides-ltb m (sz.members k)).1 l))
 
 -- an enumeration has as many members in the instance as it declares

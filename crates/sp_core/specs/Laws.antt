@@ -6,7 +6,7 @@ use Rattle.sp_values.specs.declared.place.Invocation.{Invocation}
 use Rattle.sp_values.specs.Domains.{are_values, is_value}
 use Rattle.sp_core.specs.declared.function.Answer.{Answer}
 use Rattle.sp_core.specs.Instances.{Filling, IsInstance, machine_of, sizes_of, world_of}
-use Rattle.sp_core.specs.Machine.{IsState, Machine, Run, Step}
+use Rattle.sp_core.specs.Machine.{IsInvocation, IsState, Machine, Run, Step}
 use Rattle.sp_core.specs.Measures.{Anything, LooksAt, Nothing}
 use Rattle.sp_core.specs.Parts.{Parts, signature}
 use Rattle.sp_core.specs.Tree.{Tree}
@@ -24,6 +24,11 @@ abbrev pub TypeLaw : Type 0
 TypeLaw = (p : Parts) (i : Filling) → IsWellFormed p → IsInstance p i → (s : Store) → IsState (machine_of p i) s →
     (xs : List Ty) (x : List Value) (e : Tree) (t : Ty) → IsTrue (are_values (sizes_of p i) xs x) → HasType (signature p) xs e t → LooksAt Anything Nothing e →
     IsTrue (is_value (sizes_of p i) t (value_in (world_of p i) p.functions s x e))
+
+-- a step from a state leads to a state
+abbrev pub StateLaw : Type 0
+StateLaw = (p : Parts) (i : Filling) → IsWellFormed p → IsInstance p i → (s : Store) → IsState (machine_of p i) s →
+    (inv : Invocation) (a : Answer) (t : Store) → IsInvocation (machine_of p i) inv → Step (machine_of p i) s inv a t → IsState (machine_of p i) t
 
 -- a step's answer and the state after it are determined
 abbrev pub StepLaw : Type 0

@@ -136,3 +136,16 @@ IsNotDerived (Some f) = by f.kind
 abbrev pub IsWithinDepth : List Function → ℕ → ℕ → Type 0
 IsWithinDepth fs zero g = IsNotDerived (slice_get fs g)
 IsWithinDepth fs (suc n) g = DerivesFrom (IsWithinDepth fs n) (slice_get fs g)
+
+-- the rank of a function: 0 for one that isn't derived, and for a derived one its number and 1. A derivation reads
+-- functions of lower rank alone.
+abbrev pub rank_by : ℕ → Kind → ℕ
+rank_by g (kind.Derived t e) = g + 1
+rank_by g k = 0
+
+abbrev pub rank_of : ℕ → Option Function → ℕ
+rank_of g None = 0
+rank_of g (Some f) = rank_by g f.kind
+
+abbrev pub rank : List Function → ℕ → ℕ
+rank fs g = rank_of g (slice_get fs g)

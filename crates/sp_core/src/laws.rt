@@ -1,6 +1,6 @@
 //! Laws of the definitions, each on a function that does nothing.
 
-ghost use Rattle.sp_core.specs.Laws.{JoinLaw, LookLaw, RunLaw, SplitLaw, StepLaw, TypeLaw};
+ghost use Rattle.sp_core.specs.Laws.{JoinLaw, LookLaw, RunLaw, SplitLaw, StateLaw, StepLaw, TypeLaw};
 
 /// What a state gives at a V-function is an entry, an initial value, or the value of a derivation over what it gives.
 pub fn look_law()
@@ -10,6 +10,11 @@ pub fn look_law()
 /// A well-typed expression has in each state a value of its type.
 pub fn type_law()
     ensures { TypeLaw }
+{}
+
+/// A step from a state leads to a state: its entries stay at places, with values of their types.
+pub fn state_law()
+    ensures { StateLaw }
 {}
 
 /// A step's answer and the state after it are determined.

@@ -38,6 +38,15 @@ impl Args {
         }
     }
 
+    /// Adds a value at the end.
+    pub fn push(&mut self, value: Value)
+        requires { length self.old < 8 }
+        ensures { self.new ≡ self.old ++ value ∷ [] }
+    {
+        self.places[self.count] = value;
+        self.count += 1;
+    }
+
     /// The values in order.
     pub fn values(&self) -> &[Value]
         ensures value { result.now ≡ self.now }

@@ -1,0 +1,9 @@
+pub mod Classes
+pub mod Decimal
+pub mod Division
+pub mod Keywords
+pub mod Longest
+pub mod Ranges
+pub mod Readings
+pub mod Symbols
+pub mod Unique

@@ -1,0 +1,14 @@
+//! Divides a text into its tokens, or says what is wrong with it and where.
+#![tactic(auto)]
+
+mod laws;
+mod piece;
+mod scan;
+mod spelling;
+mod tokens;
+
+pub use laws::reading_is_unique;
+pub use tokens::lex;
+
+#[cfg(test)]
+mod tests;

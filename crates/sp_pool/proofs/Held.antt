@@ -1,11 +1,10 @@
 -- Nodes and the records that spell them: what is held, and a pool with one more node, or with the last ones given up.
-use Rattle.std.proofs.Common.{◌≡◌, ℕ, zero, suc, ◌+◌, ◌-◌, ◌*◌, ◌<◌, ◌≤◌, ◌⊎◌, ⊎_elim, inl, inr, Bool, true, false, List, [], ◌∷◌, ◌++◌, length, take, map, min, get_or, Option, Some, None, Result, Ok, Err, replicate, refl, sym, ap, ◌∙◌, subst, arith}
+use Rattle.std.proofs.Common.{◌≡◌, ℕ, zero, suc, ◌+◌, ◌-◌, ◌<◌, ◌≤◌, ◌⊎◌, ⊎_elim, inl, inr, Bool, true, false, List, [], ◌∷◌, ◌++◌, length, take, map, min, get_or, Option, Some, None, Result, Ok, Err, replicate, refl, sym, ap, ◌∙◌, subst, arith}
 use Rattle.std.specs.List.{slice_get, All}
 use Rattle.std.specs.Option.{option_map}
-use Rattle.std.proofs.lemmas.Bool.{cases_lt}
-use Rattle.std.proofs.lemmas.List.{length_push, length-take, length-take-le, length-map, map_push, take-map, get_or-take}
+use Rattle.std.proofs.lemmas.List.{length_push, length-take, length-map, map_push}
 use Rattle.std.proofs.lemmas.List.Sums.{sum_by-le}
-use Rattle.std.proofs.lemmas.Option.{none-some, same_Some, slice_get-map, slice_get_within, slice_get-get_or, get_or_from_slice_get}
+use Rattle.std.proofs.lemmas.Option.{none-some, same_Some, slice_get-map, slice_get_within, slice_get-get_or}
 use Rattle.sp_pool.specs.declared.node.Node.{Node}
 use Rattle.sp_values.specs.declared.value.Value.TheVariants.{Truth}
 use Rattle.sp_pool.specs.declared.node.Full.{Full}
@@ -13,8 +12,8 @@ use Rattle.sp_pool.specs.declared.node.Head.{Head}
 use Rattle.sp_pool.specs.declared.node.Head.TheVariants.{Const}
 use Rattle.sp_pool.specs.Index.{IsIndex, IsNumbered}
 use Rattle.sp_pool.specs.Kept.{IsKept}
-use Rattle.sp_pool.specs.Nodes.{HasNode, IsHeld, IsNode, IsPool, truth_node, term, arg_of}
-use Rattle.sp_pool.specs.Records.{Records, HasRoom, words_held}
+use Rattle.sp_pool.specs.Nodes.{HasNode, IsHeld, IsNode, IsPool, truth_node, term}
+use Rattle.sp_pool.specs.Records.{HasRoom}
 use Rattle.sp_pool.specs.Spelling.{AreSpelled, IsTidy, node_of, spelling}
 use Rattle.sp_pool.proofs.Spellings.{read_count, read_eight, spelling_length}
 

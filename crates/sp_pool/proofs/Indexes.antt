@@ -1,11 +1,11 @@
 -- The index of records: what looking for words tells, and what placing a record and giving up the last one leaves.
-use Rattle.std.proofs.Common.{◌≡◌, ◌≢◌, ℕ, zero, suc, ◌+◌, ◌-◌, ◌*◌, ◌%◌, ◌<◌, ◌≤◌, ◌⊎◌, ⊎_elim, inl, inr, List, [], ◌∷◌, ◌++◌, Option, Some, None, replicate, length, take, set, get_or, unwrap_or, fold, refl, sym, ap, ◌∙◌, subst, arith, get_or-set_other, get_or-set_same}
+use Rattle.std.proofs.Common.{◌≡◌, ℕ, zero, suc, ◌+◌, ◌-◌, ◌*◌, ◌%◌, ◌<◌, ◌≤◌, ◌⊎◌, ⊎_elim, inl, inr, List, [], ◌∷◌, ◌++◌, Option, Some, None, replicate, length, take, set, get_or, unwrap_or, fold, refl, sym, ap, ◌∙◌, subst, arith, get_or-set_other, get_or-set_same}
 use Rattle.std.specs.List.{slice_get}
 use Rattle.std.proofs.Math.ListN.{length-set}
 use Rattle.std.proofs.lemmas.Bool.{cases_lt, cases_eq, cases_order}
 use Rattle.std.proofs.lemmas.List.{length-replicate, length_push, length-take-le, get_or-take, get_or_push, get_or_append_left, get_or_past}
 use Rattle.std.proofs.lemmas.Option.{none-some, same_Some, slice_get_within, get_or_from_slice_get}
-use Rattle.sp_pool.specs.Index.{start_of, place_at, number_in, IsTakenBefore, IsPlaced, IsIndex, IsNext}
+use Rattle.sp_pool.specs.Index.{start_of, place_at, number_in, IsPlaced, IsIndex, IsNext}
 use Rattle.sp_pool.proofs.Pigeons.{pigeons}
 
 -- the place from which words are sought is in the ring

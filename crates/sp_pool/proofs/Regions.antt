@@ -1,12 +1,12 @@
 -- Records in a block of words: what placing one more and giving up the last ones leaves.
-use Rattle.std.proofs.Common.{◌≡◌, ℕ, zero, suc, ◌+◌, ◌-◌, ◌<◌, ◌≤◌, ◌⊎◌, ⊎_elim, List, [], ◌∷◌, ◌++◌, length, map, take, drop, get_or, slice_index, sum_by, Some, refl, sym, ap, ◌∙◌, subst, arith, add-zero, length-append, length-drop}
+use Rattle.std.proofs.Common.{◌≡◌, ℕ, zero, suc, ◌+◌, ◌-◌, ◌<◌, ◌≤◌, ⊎_elim, List, [], ◌∷◌, ◌++◌, length, map, take, drop, slice_index, sum_by, Some, refl, sym, ap, ◌∙◌, subst, arith, add-zero, length-append, length-drop}
 use Rattle.std.specs.List.{range_with_len, slice_range, slice_get}
 use Rattle.std.proofs.lemmas.Bool.{cases_lt}
 use Rattle.std.proofs.lemmas.List.{length-take, length-take-le, get_or-take, take-take, take-append-le, take_all, get_or_push, length_push, get_or_append_left, drop_at}
 use Rattle.std.proofs.lemmas.List.FromFn.{length-map-range_with_len, get_or-map-range_with_len, take-map-range_with_len, map-range_with_len_more, fill_by_all, sum_by-map-range_with_len_more}
-use Rattle.std.proofs.lemmas.Option.{slice_get-get_or, get_or_from_slice_get}
+use Rattle.std.proofs.lemmas.Option.{slice_get-get_or}
 use Rattle.std.proofs.lemmas.Slice.{between_is}
-use Rattle.sp_pool.specs.Records.{Records, words_held, HasRoom, record_at, records_between, AreBounds}
+use Rattle.sp_pool.specs.Records.{words_held, HasRoom, record_at, records_between, AreBounds}
 
 pub map_range_same : {X : Type 0} (d : X) (f g : ℕ → X) (n : ℕ) → ((k : ℕ) → k < n → f k ≡ g k) → map f (range_with_len 0 n) ≡ map g (range_with_len 0 n)
 map_range_same d f g n h =

@@ -51,10 +51,10 @@ impl Region {
     pub fn new(alloc: Global, words: u32, records: u32) -> Result<Region, Memory>
         ensures { IfOk result (λ region. region ≡ record { records = []; most_words = words; most_records = records }) }
     {
-        let mut bounds = Vec::with_capacity(alloc, records as usize + 1).map_err(|_| Memory)?;
-        bounds.push(0).map_err(|_| Memory)?;
+        let mut bounds = Vec::with_capacity(alloc, records as usize + 1)?;
+        bounds.push(0)?;
         Ok(Region {
-            words: Vec::with_capacity(alloc, words as usize).map_err(|_| Memory)?,
+            words: Vec::with_capacity(alloc, words as usize)?,
             bounds,
             most_words: words,
             most_records: records,

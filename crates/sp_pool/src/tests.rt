@@ -56,7 +56,7 @@ fn head_of(k: u16) -> Head {
         0 => Head::Const(Value::Int(i64::from(k) - 1024)),
         1 => Head::Const(Value::Int(i64::MIN + i64::from(k % 10))),
         2 => Head::Const(Value::Member(k, k / 2)),
-        3 => Head::Look(k % 7 * 1024 + k),
+        3 => Head::Look(k % 7 * 1024 + k % 512),
         _ => Head::Two(Op::Glb),
     }
 }

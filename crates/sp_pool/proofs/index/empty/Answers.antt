@@ -1,4 +1,4 @@
-use Rattle.std.proofs.Common.{◌≡◌, List, [], ℕ, Option, None, replicate, sym, ap, ◌∙◌, rules}
+use Rattle.std.proofs.Common.{◌≡◌, None, replicate, rules}
 use Rattle.sp_pool.proofs.Indexes.{empty_index}
 use Rattle.sp_pool.proofs.index.empty.Goals as goal
 

@@ -1,8 +1,7 @@
-use Rattle.std.proofs.Common.{◌≡◌, ℕ, ◌+◌, ◌%◌, ◌<◌, ◌≤◌, Some, None, List, false, below_more, subst, sym, ap, ◌∙◌, arith}
-use Rattle.std.specs.List.{slice_get}
+use Rattle.std.proofs.Common.{◌+◌, ◌%◌, below_more, sym, ap, ◌∙◌, arith}
 use Rattle.std.proofs.lemmas.Bool.{false≢true}
 use Rattle.std.proofs.lemmas.Option.{same_Some}
-use Rattle.sp_pool.specs.Index.{IsNext, number_in, place_at, start_of}
+use Rattle.sp_pool.specs.Index.{number_in}
 use Rattle.sp_pool.proofs.Indexes.{next_at, none_from, some_free}
 use Rattle.sp_pool.proofs.index.look_up.Goals as goal
 

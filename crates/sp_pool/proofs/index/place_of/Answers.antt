@@ -1,6 +1,4 @@
-use Rattle.std.proofs.Common.{◌≡◌, ℕ, ◌+◌, ◌<◌, [], length, take, get_or, sym, ap, ◌∙◌, arith}
-use Rattle.std.proofs.lemmas.List.{get_or-take, length-take-le}
-use Rattle.sp_pool.specs.Index.{IsIndex, IsPlaced}
+use Rattle.std.proofs.Common.{arith}
 use Rattle.sp_pool.proofs.Indexes.{standing_last}
 use Rattle.sp_pool.proofs.index.place_of.Goals as goal
 

@@ -1,8 +1,6 @@
-use Rattle.std.proofs.Common.{◌≡◌, ◌≤◌, ◌<◌, ◌∷◌, ◌++◌, [], List, length, ℕ, set, Some, ⊎_elim, sym, ap, ◌∙◌, subst, arith}
+use Rattle.std.proofs.Common.{◌≡◌, ◌≤◌, ◌<◌, ◌∷◌, ◌++◌, [], length, ⊎_elim, sym, ap, ◌∙◌, arith}
 use Rattle.std.proofs.lemmas.Bool.{cases_lt}
-use Rattle.sp_pool.specs.Index.{IsIndex, IsNext}
-use Rattle.sp_pool.specs.Records.{Records, HasRoom}
-use Rattle.sp_pool.specs.Spelling.{spelling}
+use Rattle.sp_pool.specs.Records.{Records}
 use Rattle.sp_pool.proofs.Held.{room_for}
 use Rattle.sp_pool.proofs.Indexes.{added}
 use Rattle.sp_pool.proofs.pool.number.Goals as goal

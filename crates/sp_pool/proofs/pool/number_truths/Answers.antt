@@ -1,4 +1,4 @@
-use Rattle.std.proofs.Common.{◌≡◌, ◌≤◌, List, ℕ, ◌∷◌, length, true, false, sym, ap, ◌∙◌, arith}
+use Rattle.std.proofs.Common.{◌≡◌, true, false}
 use Rattle.sp_pool.specs.Index.{IsNumbered}
 use Rattle.sp_pool.specs.Nodes.{truth_node}
 use Rattle.sp_pool.specs.Spelling.{node_of, spelling}

@@ -1,4 +1,4 @@
-use Rattle.std.proofs.Common.{◌+◌, ◌<◌, ◌≤◌, length, slice_index, arith, rules}
+use Rattle.std.proofs.Common.{◌+◌, ◌≤◌, length, slice_index, rules}
 use Rattle.sp_pool.proofs.Regions.{bound_within}
 use Rattle.sp_pool.proofs.region.record_in.Goals as goal
 

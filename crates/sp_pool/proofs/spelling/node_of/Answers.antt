@@ -1,5 +1,4 @@
-use Rattle.std.proofs.Common.{◌≡◌, ◌+◌, ◌-◌, ◌<◌, ℕ, List, length, map, slice_index, sym, ap, ◌∙◌, arith, rules}
-use Rattle.std.specs.List.{range_with_len}
+use Rattle.std.proofs.Common.{◌+◌, ◌-◌, List, length, slice_index, ap, ◌∙◌, arith}
 use Rattle.std.proofs.lemmas.List.FromFn.{fill_by_all}
 use Rattle.sp_pool.specs.declared.node.TermId.{TermId}
 use Rattle.sp_pool.specs.declared.node.Node.{Node}

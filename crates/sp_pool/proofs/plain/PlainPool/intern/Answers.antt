@@ -1,5 +1,5 @@
-use Rattle.std.proofs.Common.{◌≡◌, ◌<◌, ◌≤◌, ◌++◌, ◌∷◌, [], length, sym, ap, ◌∙◌, subst, arith, rules}
-use Rattle.sp_pool.specs.Nodes.{HasNode, IsHeld, IsNode, IsPool}
+use Rattle.std.proofs.Common.{◌≡◌, ◌<◌, ◌++◌, ◌∷◌, [], length, ◌∙◌, arith, rules}
+use Rattle.sp_pool.specs.Nodes.{IsHeld, IsNode}
 use Rattle.sp_pool.proofs.Held.{two, pool_more, get_last}
 use Rattle.sp_pool.proofs.plain.PlainPool.intern.Goals as goal
 

@@ -1,8 +1,7 @@
-use Rattle.std.proofs.Common.{◌≡◌, ℕ, ◌<◌, length, map, Some, true, false, sym, ap, ◌∙◌, subst}
+use Rattle.std.proofs.Common.{◌≡◌, map, Some, sym, ap, ◌∙◌}
 use Rattle.std.specs.List.{slice_get}
 use Rattle.std.proofs.lemmas.Bool.{false≢true}
-use Rattle.sp_pool.specs.declared.node.Node.{Node}
-use Rattle.sp_pool.specs.Nodes.{HasNode, IsHeld, IsNode}
+use Rattle.sp_pool.specs.Nodes.{IsHeld}
 use Rattle.sp_pool.specs.Spelling.{node_of, spelling}
 use Rattle.sp_pool.proofs.Held.{spelled_at, node_at, tidy_node}
 use Rattle.sp_pool.proofs.pool.Pool.find.Goals as goal

@@ -1,8 +1,8 @@
-use Rattle.std.proofs.Common.{◌≡◌, ℕ, length, map, Result, Ok, Err, List, sym, ap, ◌∙◌, subst, arith, rules}
+use Rattle.std.proofs.Common.{◌≡◌, length, map, Result, Ok, Err, ◌∙◌, arith, rules}
 use Rattle.std.specs.Result.{OnErr}
 use Rattle.std.specs.Vec.{with_items}
 use Rattle.std.proofs.lemmas.List.{with_items_is}
-use Rattle.sp_pool.specs.Nodes.{HasNode, IsHeld, IsNode, IsPool}
+use Rattle.sp_pool.specs.Nodes.{IsHeld, IsNode}
 use Rattle.sp_pool.specs.Kept.{IsKept}
 use Rattle.sp_pool.specs.Spelling.{node_of}
 use Rattle.sp_pool.proofs.Held.{numbered_here, numbered_held, numbered_next, numbered_full, numbered_kept}

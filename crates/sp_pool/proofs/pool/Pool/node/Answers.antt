@@ -1,8 +1,7 @@
-use Rattle.std.proofs.Common.{◌≡◌, ◌≤◌, length, map, Some, sym, ap, ◌∙◌}
+use Rattle.std.proofs.Common.{Some, sym, ap, ◌∙◌}
 use Rattle.std.specs.List.{slice_get}
 use Rattle.std.specs.Option.{option_map}
 use Rattle.std.proofs.lemmas.Option.{slice_get-map}
-use Rattle.sp_pool.specs.Nodes.{HasNode}
 use Rattle.sp_pool.specs.Spelling.{node_of}
 use Rattle.sp_pool.proofs.Held.{some_words, few_words}
 use Rattle.sp_pool.proofs.pool.Pool.node.Goals as goal

@@ -1,9 +1,7 @@
-use Rattle.std.proofs.Common.{◌≡◌, ◌≤◌, ℕ, List, length, map, take, sym, ap, ◌∙◌, arith}
+use Rattle.std.proofs.Common.{◌≡◌, map, take, sym, ap, ◌∙◌, arith}
 use Rattle.std.specs.Vec.{with_items}
 use Rattle.std.proofs.lemmas.List.{with_items_is, take-map}
 use Rattle.sp_pool.specs.Records.{Records}
-use Rattle.sp_pool.specs.Kept.{IsKept}
-use Rattle.sp_pool.specs.Nodes.{IsPool}
 use Rattle.sp_pool.specs.Spelling.{node_of}
 use Rattle.sp_pool.proofs.Held.{two, pool_less, spelled_less}
 use Rattle.sp_pool.proofs.pool.Pool.release.Goals as goal

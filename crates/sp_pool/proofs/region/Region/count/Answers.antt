@@ -1,5 +1,5 @@
-use Rattle.std.proofs.Common.{◌≡◌, ◌-◌, length, sym, ap, ◌∙◌, arith}
-use Rattle.sp_pool.specs.Records.{Records, records_between}
+use Rattle.std.proofs.Common.{◌-◌, length, sym, ap, ◌∙◌, arith}
+use Rattle.sp_pool.specs.Records.{Records}
 use Rattle.sp_pool.proofs.Regions.{count_is}
 use Rattle.sp_pool.proofs.region.Region.count.Goals as goal
 

@@ -1,6 +1,6 @@
 use Rattle.std.proofs.Common.{◌≡◌, length, arith}
-use Rattle.std.proofs.lemmas.Bool.{le-leb, ltb-true, lt-ltb, leb-true}
-use Rattle.sp_pool.specs.Records.{Records, HasRoom, records_between}
+use Rattle.std.proofs.lemmas.Bool.{ltb-true, lt-ltb, leb-true}
+use Rattle.sp_pool.specs.Records.{records_between}
 use Rattle.sp_pool.proofs.Regions.{room_told, room_from, count_is}
 use Rattle.sp_pool.proofs.region.Region.has_room.Goals as goal
 

@@ -1,8 +1,8 @@
-use Rattle.std.proofs.Common.{◌≡◌, ℕ, ◌+◌, ◌<◌, ◌≤◌, ◌≢◌, length, take, set, slice_index, below_more, sym, ap, ◌∙◌, arith, rules, get_or-set_other, get_or-set_same}
+use Rattle.std.proofs.Common.{◌≡◌, ℕ, ◌+◌, ◌<◌, ◌≢◌, length, take, set, slice_index, below_more, ap, ◌∙◌, arith, rules, get_or-set_other, get_or-set_same}
 use Rattle.std.proofs.Math.ListN.{length-set}
 use Rattle.sp_pool.specs.Nodes.{arg_of}
-use Rattle.sp_pool.specs.Spelling.{head_words, node_of, spelling}
-use Rattle.sp_pool.proofs.Spellings.{spelled, spells, spelling_count}
+use Rattle.sp_pool.specs.Spelling.{node_of, spelling}
+use Rattle.sp_pool.proofs.Spellings.{spelled, spells}
 use Rattle.sp_pool.proofs.spelling.Spelling.of.Goals as goal
 use Rattle.sp_pool.proofs.spelling.Spelling.of.Goals.{After-from-2}
 

@@ -6,3 +6,6 @@ pub mod Lists
 pub mod Refusals
 pub mod Guards
 pub mod Rules
+pub mod Inside
+pub mod Pairs
+pub mod Chains

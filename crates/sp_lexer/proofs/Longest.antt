@@ -1,14 +1,12 @@
 -- Which pieces are the longest at their place.
-use Rattle.std.proofs.Common.{◌≡◌, ◌≢◌, ℕ, ◌+◌, ◌-◌, ◌<◌, ◌≤◌, ◌⊎◌, inl, inr, IsTrue, Bool, true, false, List, [], ◌∷◌, length, slice_index, slice_range, refl, sym, ap, ◌∙◌, subst, arith}
-use Rattle.std.proofs.lemmas.Bool.{cases_lt, both_ways}
-use Rattle.sp_text.specs.Classes.{letter_byte, digit_byte, space_byte}
-use Rattle.sp_text.specs.declared.token.Symbol.{Symbol}
-use Rattle.sp_text.specs.declared.token.Symbol.TheVariants as mark
+use Rattle.std.proofs.Common.{◌≡◌, ℕ, ◌+◌, ◌-◌, ◌<◌, ◌≤◌, inl, inr, IsTrue, Bool, List, length, slice_index, refl, sym, ap, ◌∙◌, arith}
+use Rattle.std.proofs.lemmas.Bool.{cases_lt}
+use Rattle.sp_text.specs.Classes.{letter_byte, digit_byte}
 use Rattle.sp_lexer.specs.Spelling.{symbol_text}
-use Rattle.sp_lexer.specs.Pieces.{Piece, blank, comment, keyword, name, number, symbol, word_byte, IsPiece, IsRun, IsWord, IsComment, OpensComment, IsLongest}
+use Rattle.sp_lexer.specs.Pieces.{Piece, blank, comment, keyword, name, number, symbol, word_byte, IsPiece, IsRun, IsWord, IsComment, IsLongest}
 use Rattle.sp_lexer.specs.Scans.{IsWholeRun}
 use Rattle.sp_lexer.proofs.Classes.{Class, spaces, letters, digits, dollar, others, class_of, class_of-space, class_of-letter, class_of-digit, class_of-dollar, class_of-symbol}
-use Rattle.sp_lexer.proofs.Ranges.{range-length, range-first, range-one, range-two}
+use Rattle.sp_lexer.proofs.Ranges.{range-first}
 
 -- the class of a piece's first byte
 abbrev pub class_of_piece : Piece → Class

@@ -1,5 +1,5 @@
 -- The bytes from a place of a text on and before another.
-use Rattle.std.proofs.Common.{◌≡◌, ℕ, ◌+◌, ◌-◌, ◌<◌, ◌≤◌, List, [], ◌∷◌, ◌++◌, length, take, drop, get_or, slice_range, slice_index, refl, ◌∙◌, ap, arith, length-drop, length-take, get_or-drop, get_or-take}
+use Rattle.std.proofs.Common.{◌≡◌, ℕ, ◌+◌, ◌-◌, ◌<◌, ◌≤◌, List, [], ◌∷◌, ◌++◌, length, take, drop, get_or, slice_range, slice_index, ◌∙◌, ap, arith, length-drop, length-take, get_or-drop, get_or-take}
 use Rattle.std.proofs.lemmas.List.{take_more}
 
 pub range-length : (text : List ℕ) (start end : ℕ) → end ≤ length text → length (slice_range text start end) ≡ end - start

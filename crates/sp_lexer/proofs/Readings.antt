@@ -1,15 +1,13 @@
 -- What is answered with tokens or with a fault is the one answer of its text.
-use Rattle.std.proofs.Common.{◌≡◌, ℕ, ◌⊎◌, inl, inr, ◌+◌, List, [], ◌∷◌, length, Option, Some, None, Result, Ok, Err, MatchResult, pos, ◌≤ℤ◌, filter_map, sym, arith}
+use Rattle.std.proofs.Common.{◌≡◌, ℕ, ◌⊎◌, inl, inr, List, [], ◌∷◌, Result, Ok, Err, MatchResult, filter_map, sym, arith}
 use Rattle.std.specs.List.{cons_option, All}
-use Rattle.std.specs.Option.{option_map}
 use Rattle.std.proofs.lemmas.Int.{ints}
 use Rattle.std.proofs.lemmas.List.Elements.{All-nil, All-cons}
 use Rattle.sp_text.specs.declared.token.Token.{Token}
-use Rattle.sp_text.specs.declared.token.TokenKind.{TokenKind}
 use Rattle.sp_text.specs.declared.fault.TextFault.{TextFault}
 use Rattle.sp_text.specs.declared.fault.TextFault.TheVariants as fault
 use Rattle.sp_lexer.specs.Pieces.{Piece, blank, comment, keyword, name, number, symbol}
-use Rattle.sp_lexer.specs.Tokens.{Placed, kind_of, token_of, IsTokens, IsUnsigned}
+use Rattle.sp_lexer.specs.Tokens.{Placed, token_of, IsTokens, IsUnsigned}
 use Rattle.sp_lexer.specs.Faults.{IsFirstFault}
 use Rattle.sp_lexer.proofs.Unique.{same_tokens, same_first_fault, no_fault_with_tokens}
 

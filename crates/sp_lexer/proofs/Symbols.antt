@@ -1,7 +1,6 @@
 -- Symbols have one byte or two, and the longest is looked for first.
-use Rattle.std.proofs.Common.{◌≡◌, ◌≢◌, ℕ, ◌+◌, ◌-◌, ◌<◌, ◌≤◌, ◌⊎◌, inl, inr, IsTrue, Bool, true, false, List, [], ◌∷◌, length, slice_index, slice_range, refl, sym, ap, ◌∙◌, subst, arith}
+use Rattle.std.proofs.Common.{◌≡◌, ◌≢◌, ℕ, ◌+◌, ◌-◌, ◌<◌, ◌≤◌, ◌⊎◌, inl, inr, List, [], ◌∷◌, length, slice_index, slice_range, refl, sym, ap, ◌∙◌, arith}
 use Rattle.std.proofs.lemmas.Bool.{both_ways}
-use Rattle.sp_text.specs.Classes.{letter_byte, digit_byte, space_byte}
 use Rattle.sp_text.specs.declared.token.Symbol.{Symbol}
 use Rattle.sp_text.specs.declared.token.Symbol.TheVariants as mark
 use Rattle.sp_lexer.specs.Spelling.{symbol_text}

@@ -1,12 +1,11 @@
 -- A text is divided in one way at most, has at most one list of tokens and at most one first fault, and never both.
-use Rattle.std.proofs.Common.{◌≡◌, ◌≢◌, ℕ, ◌+◌, ◌-◌, ◌<◌, ◌≤◌, ◌⊎◌, inl, inr, Bool, true, false, List, [], ◌∷◌, ◌++◌, length, Option, Some, None, filter_map, find, codes, refl, sym, ap, ◌∙◌, subst, arith, append-nil, slice_index, slice_range}
+use Rattle.std.proofs.Common.{◌≡◌, ℕ, ◌+◌, ◌-◌, ◌<◌, ◌≤◌, ◌⊎◌, inl, inr, List, [], ◌∷◌, ◌++◌, length, Option, Some, None, filter_map, find, refl, sym, ap, ◌∙◌, subst, arith, append-nil}
 use Rattle.std.specs.List.{cons_option, All}
-use Rattle.std.specs.Option.{option_map, is_some, IsSome}
+use Rattle.std.specs.Option.{option_map, IsSome}
 use Rattle.std.specs.Str.{bytes_eq}
 use Rattle.std.proofs.lemmas.List.{length-append, get_or_at}
 use Rattle.std.proofs.lemmas.List.Elements.{filter_map-append}
 use Rattle.sp_text.specs.declared.token.Token.{Token}
-use Rattle.sp_text.specs.declared.token.TokenKind.{TokenKind}
 use Rattle.sp_text.specs.declared.token.Keyword.{Keyword}
 use Rattle.sp_text.specs.declared.token.Keyword.TheVariants as word
 use Rattle.sp_text.specs.declared.token.Symbol.{Symbol}

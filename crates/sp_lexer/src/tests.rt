@@ -1,8 +1,11 @@
+ghost use Rattle.std.specs.Prelude.{◌≡◌, IfOk, length};
+
 use super::lex;
 use crate::spelling::KEYWORDS;
 use sp_text::{
     Keyword, Limit, Malformed, Name, Quantity, Rule, Span, Symbol, TextFault, Token, TokenKind,
 };
+use std::alloc::{AllocError, Global};
 use std::test::Fail;
 
 /// Every keyword, in the order of the type.
@@ -110,18 +113,24 @@ fn a_text_ends_inside_a_token(rt: HostRuntime) -> Result<(), Fail> {
     Ok(())
 }
 
+fn parentheses(alloc: Global, count: usize) -> Result<Vec<u8>, AllocError>
+    ensures { IfOk result (λ text. length text.items ≡ count) }
+{
+    vec![in alloc; b'('; count]
+}
+
 #[test]
 fn tokens_have_a_limit(rt: HostRuntime) -> Result<(), Fail> {
-    let text = vec![in rt.alloc(); b'('; 200_001]?;
-    assert_eq!(rt; text.len(), 200_001);
-    assert_eq!(rt; lex(rt.alloc(), &text[..200_000])?.len(), 200_000);
+    let full = parentheses(rt.alloc(), 200_000)?;
+    assert_eq!(rt; lex(rt.alloc(), &full)?.len(), 200_000);
     let span = Span {
         start: 200_000,
         end: 200_001,
     };
     let quantity = Quantity::Tokens;
+    let more = parentheses(rt.alloc(), 200_001)?;
     assert_eq!(rt;
-        lex(rt.alloc(), &text).err(),
+        lex(rt.alloc(), &more).err(),
         Some(TextFault::Limit(Limit { span, quantity }))
     );
     Ok(())

@@ -1,5 +1,5 @@
 use Rattle.std.proofs.Common.{rules}
-use Rattle.sp_lexer.proofs.Readings.{IsReading, answered_with_tokens, refused_with_fault, tokens_unsigned}
+use Rattle.sp_lexer.proofs.Readings.{answered_with_tokens, refused_with_fault, tokens_unsigned}
 use Rattle.sp_lexer.proofs.Unique.{same_tokens, no_fault_with_tokens}
 use Rattle.sp_lexer.proofs.tokens.lex.Goals as goal
 

@@ -1,5 +1,5 @@
 -- Each byte has one class, and each kind of piece begins with bytes of one class.
-use Rattle.std.proofs.Common.{◌≡◌, ℕ, Bool, true, false, cond, IsTrue, slice_index, ◌==◌, refl, sym, ap, ◌∙◌, arith}
+use Rattle.std.proofs.Common.{◌≡◌, ℕ, true, false, cond, slice_index, ◌==◌, refl, arith}
 use Rattle.std.proofs.lemmas.Bool.Decides.{nat_tests}
 use Rattle.sp_text.specs.Classes.{letter_byte, digit_byte, space_byte}
 use Rattle.sp_text.specs.declared.token.Symbol.{Symbol}

@@ -1,14 +1,12 @@
 -- Which pieces are the longest at their place.
-use Rattle.std.proofs.Common.{◌≡◌, ◌≢◌, ℕ, ◌+◌, ◌-◌, ◌<◌, ◌≤◌, ◌⊎◌, inl, inr, IsTrue, Bool, true, false, List, [], ◌∷◌, length, slice_index, slice_range, refl, sym, ap, ◌∙◌, subst, arith}
-use Rattle.std.proofs.lemmas.Bool.{cases_lt, both_ways}
-use Rattle.sp_text.specs.Classes.{letter_byte, digit_byte, space_byte}
-use Rattle.sp_text.specs.declared.token.Symbol.{Symbol}
-use Rattle.sp_text.specs.declared.token.Symbol.TheVariants as mark
+use Rattle.std.proofs.Common.{◌≡◌, ℕ, ◌+◌, ◌-◌, ◌<◌, ◌≤◌, inl, inr, IsTrue, Bool, List, length, slice_index, refl, sym, ap, ◌∙◌, arith}
+use Rattle.std.proofs.lemmas.Bool.{cases_lt}
+use Rattle.sp_text.specs.Classes.{letter_byte, digit_byte}
 use Rattle.sp_lexer.specs.Spelling.{symbol_text}
-use Rattle.sp_lexer.specs.Pieces.{Piece, blank, comment, keyword, name, number, symbol, word_byte, IsPiece, IsRun, IsWord, IsComment, OpensComment, IsLongest}
+use Rattle.sp_lexer.specs.Pieces.{Piece, blank, comment, keyword, name, number, symbol, word_byte, IsPiece, IsRun, IsWord, IsComment, IsLongest}
 use Rattle.sp_lexer.specs.Scans.{IsWholeRun}
 use Rattle.sp_lexer.proofs.Classes.{Class, spaces, letters, digits, dollar, others, class_of, class_of-space, class_of-letter, class_of-digit, class_of-dollar, class_of-symbol}
-use Rattle.sp_lexer.proofs.Ranges.{range-length, range-first, range-one, range-two}
+use Rattle.sp_lexer.proofs.Ranges.{range-first}
 
 -- the class of a piece's first byte
 abbrev pub class_of_piece : Piece → Class
@@ -76,17 +74,17 @@ module _ (text : List ℕ) where
 
   run_ends : (class : ℕ → Bool) (i j m : ℕ) → IsWholeRun text class i j → IsRun text class i m → m ≤ j
   run_ends class i j m w r = elim (cases_lt j m) [
-      inl lt ↦ absurd (w.stops (omega (arith, r.within)) (r.each j w.onwards lt))
+    | inl lt ↦ absurd (w.stops (omega (arith, r.within)) (r.each j w.onwards lt))
     | inr le ↦ le
-    ]
+  ]
 
   -- a whole run that begins with a byte of its class has a byte
   pub run_of : (class : ℕ → Bool) (i j : ℕ) → i < length text → IsTrue (class (slice_index text i)) → IsWholeRun text class i j → IsRun text class i j
   run_of class i j h b w = record {
     some = elim (cases_lt i j) [
-        inl lt ↦ lt
+      | inl lt ↦ lt
       | inr le ↦ (let e : j ≡ i = omega (arith, w.onwards) in absurd (w.stops (omega arith) (rw e b)))
-      ];
+    ];
     within = w.within;
     each = w.each;
   }
@@ -114,9 +112,9 @@ module _ (text : List ℕ) where
 
   comment_ends : (i j m : ℕ) → IsComment text i j → IsComment text i m → m ≤ j
   comment_ends i j m h k = elim (cases_lt j m) [
-      inl lt ↦ absurd (k.between (j - 1) (omega (arith, h.room)) (omega (arith, h.room)) h.closes)
+    | inl lt ↦ absurd (k.between (j - 1) (omega (arith, h.room)) (omega (arith, h.room)) h.closes)
     | inr le ↦ le
-    ]
+  ]
 
   pub comment_longest : (i j : ℕ) → IsComment text i j → IsLongest text comment i j
   comment_longest i j h = record {

@@ -1,5 +1,5 @@
 -- The bytes from a place of a text on and before another.
-use Rattle.std.proofs.Common.{◌≡◌, ℕ, ◌+◌, ◌-◌, ◌<◌, ◌≤◌, List, [], ◌∷◌, ◌++◌, length, take, drop, get_or, slice_range, slice_index, refl, ◌∙◌, ap, arith, length-drop, length-take, get_or-drop, get_or-take}
+use Rattle.std.proofs.Common.{◌≡◌, ℕ, ◌+◌, ◌-◌, ◌<◌, ◌≤◌, List, [], ◌∷◌, ◌++◌, length, take, drop, get_or, slice_range, slice_index, ◌∙◌, ap, arith, length-drop, length-take, get_or-drop, get_or-take}
 use Rattle.std.proofs.lemmas.List.{take_more}
 
 pub range-length : (text : List ℕ) (start end : ℕ) → end ≤ length text → length (slice_range text start end) ≡ end - start
@@ -27,4 +27,4 @@ pub range-two : (text : List ℕ) (start : ℕ) → start + 1 < length text → 
 range-two text start h =
     let e : start + 2 ≡ (start + 1) + 1 = omega arith in
     ap (λ n. slice_range text start n) e ∙ range-more text start (start + 1) (omega arith) h
-      ∙ ap (λ (xs : List ℕ). xs ++ slice_index text (start + 1) ∷ []) (range-one text start (omega arith))
+    ∙ ap (λ (xs : List ℕ). xs ++ slice_index text (start + 1) ∷ []) (range-one text start (omega arith))

@@ -1,7 +1,6 @@
 -- Symbols have one byte or two, and the longest is looked for first.
-use Rattle.std.proofs.Common.{◌≡◌, ◌≢◌, ℕ, ◌+◌, ◌-◌, ◌<◌, ◌≤◌, ◌⊎◌, inl, inr, IsTrue, Bool, true, false, List, [], ◌∷◌, length, slice_index, slice_range, refl, sym, ap, ◌∙◌, subst, arith}
+use Rattle.std.proofs.Common.{◌≡◌, ◌≢◌, ℕ, ◌+◌, ◌-◌, ◌<◌, ◌≤◌, ◌⊎◌, inl, inr, List, [], ◌∷◌, length, slice_index, slice_range, refl, sym, ap, ◌∙◌, arith}
 use Rattle.std.proofs.lemmas.Bool.{both_ways}
-use Rattle.sp_text.specs.Classes.{letter_byte, digit_byte, space_byte}
 use Rattle.sp_text.specs.declared.token.Symbol.{Symbol}
 use Rattle.sp_text.specs.declared.token.Symbol.TheVariants as mark
 use Rattle.sp_lexer.specs.Spelling.{symbol_text}
@@ -11,12 +10,12 @@ use Rattle.sp_lexer.proofs.Ranges.{range-length, range-one, range-two}
 
 symbol_size : (s : Symbol) → (length (symbol_text s) ≡ 1) ⊎ (length (symbol_text s) ≡ 2)
 symbol_size s = elim s as (λ s. (length (symbol_text s) ≡ 1) ⊎ (length (symbol_text s) ≡ 2)) [
-    mark.NotEqual ↦ inr refl
+  | mark.NotEqual ↦ inr refl
   | mark.LessOrEqual ↦ inr refl
   | mark.GreaterOrEqual ↦ inr refl
   | mark.Arrow ↦ inr refl
   | _ ↦ inl refl
-  ]
+]
 
 module _ (text : List ℕ) (start : ℕ) where
   -- a symbol that stands at start is spelled by its one byte, or its two
@@ -30,11 +29,11 @@ module _ (text : List ℕ) (start : ℕ) where
   symbol_cases s end h =
       let size : end - start ≡ length (symbol_text s) = sym (range-length text start end h.1) ∙ ap length h.2 in
       elim (symbol_size s) [
-        inl one ↦ (let e : end ≡ start + 1 = omega (arith, h.0) in
-          inl (e, sym h.2 ∙ ap (λ n. slice_range text start n) e ∙ range-one text start (omega (arith, h.0, h.1))))
-      | inr two ↦ (let e : end ≡ start + 2 = omega (arith, h.0) in
-          let w : start + 1 < length text = omega (arith, h.0, h.1) in
-          inr (e, record { within = w; spelled = sym h.2 ∙ ap (λ n. slice_range text start n) e ∙ range-two text start w }))
+        | inl one ↦ (let e : end ≡ start + 1 = omega (arith, h.0) in
+            inl (e, sym h.2 ∙ ap (λ n. slice_range text start n) e ∙ range-one text start (omega (arith, h.0, h.1))))
+        | inr two ↦ (let e : end ≡ start + 2 = omega (arith, h.0) in
+            let w : start + 1 < length text = omega (arith, h.0, h.1) in
+            inr (e, record { within = w; spelled = sym h.2 ∙ ap (λ n. slice_range text start n) e ∙ range-two text start w }))
       ]
 
   other_symbol : IsOther text start → (P : Type 0) (q : Piece) (m : ℕ) → IsPiece text q start m → ((s : Symbol) → IsSingle s m ⊎ IsDouble s m → P) → P

@@ -1,6 +1,6 @@
 -- The tokens of a text that has no fault: those of the only division of the text into longest pieces. For the lexer's
 -- contract, and for the readers of token lists above it.
-use Rattle.std.specs.Prelude.{◌≡◌, ℕ, pos, ◌≤◌, List, [], ◌∷◌, length, Option, Some, None, filter_map, All}
+use Rattle.std.specs.Prelude.{◌≡◌, ℕ, pos, ◌≤ℤ◌, ◌≤◌, List, [], ◌∷◌, length, Option, Some, None, filter_map, All}
 use Rattle.std.specs.Option.{option_map}
 use Rattle.sp_text.specs.declared.token.Token.{Token}
 use Rattle.sp_text.specs.declared.token.TokenKind.{TokenKind}
@@ -59,3 +59,10 @@ pub record HasTokens (text : List ℕ) (tokens : List Token) (place : ℕ) : Typ
 -- these are the tokens of the text, and it has no fault
 abbrev pub IsTokens : List ℕ → List Token → Type 0
 IsTokens text tokens = HasTokens text tokens (length text)
+
+-- a number isn't negative, where the token is one
+abbrev pub IsUnsigned : TokenKind → Type 0
+IsUnsigned (kind.Word k) = Unit {0}
+IsUnsigned (kind.Name n) = Unit {0}
+IsUnsigned (kind.Number n) = pos 0 ≤ℤ n
+IsUnsigned (kind.Symbol s) = Unit {0}

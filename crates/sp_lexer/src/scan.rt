@@ -60,8 +60,8 @@ fn next_value(value: Option<u64>, digit: u8) -> Option<u64>
     ensures { MatchOption value
         (result ≡ None)
         (λ n. MatchOption result
-            (greatest_number < 10 * n + digit)
-            (λ next. (10 * n + digit ≡ next) × (next ≤ greatest_number))) }
+        (greatest_number < 10 * n + digit)
+        (λ next. (10 * n + digit ≡ next) × (next ≤ greatest_number))) }
 {
     let next = value?.checked_mul(10)?.checked_add(u64::from(digit))?;
     (next <= GREATEST_NUMBER).then_some(next)

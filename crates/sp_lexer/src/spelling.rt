@@ -6,7 +6,7 @@ ghost use Rattle.sp_lexer.specs.Spelling.{keyword_text, symbol_text};
 use sp_text::{Keyword, Symbol};
 
 /// Every keyword.
-const KEYWORDS: [Keyword; 61] = [
+pub const KEYWORDS: [Keyword; 61] = [
     Keyword::Module,
     Keyword::EndModule,
     Keyword::Types,
@@ -143,7 +143,10 @@ fn spelling(keyword: Keyword) -> &'static [u8]
 pub fn keyword(word: &[u8]) -> Option<Keyword>
     ensures { MatchOption result ((k : Keyword) → word.now ≢ keyword_text k) (λ k. word.now ≡ keyword_text k) }
 {
-    KEYWORDS.iter().copied().find(|keyword| spelling(*keyword) == word)
+    KEYWORDS
+        .iter()
+        .copied()
+        .find(|keyword| spelling(*keyword) == word)
 }
 
 /// The symbol that is spelled by these two bytes.

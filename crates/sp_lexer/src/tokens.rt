@@ -1,5 +1,7 @@
-ghost use Rattle.std.specs.Prelude.{◌≡◌, ◌≤◌, ◌<◌, ◌⊎◌, IfErr, IfOk, OnOk, length};
-ghost use Rattle.sp_lexer.specs.Tokens.{HasTokens, IsTokens};
+ghost use Rattle.std.specs.Prelude.{◌≡◌, ◌≤◌, ◌<◌, ◌⊎◌, All, IfErr, IfOk, List, MatchResult, OnOk, length};
+ghost use Rattle.sp_text.specs.declared.token.Token.{Token};
+ghost use Rattle.sp_text.specs.declared.fault.TextFault.{TextFault};
+ghost use Rattle.sp_lexer.specs.Tokens.{HasTokens, IsTokens, IsUnsigned};
 ghost use Rattle.sp_lexer.specs.Faults.{IsFirstFault};
 ghost use Rattle.sp_lexer.specs.Scanned.{IsScanned, lexeme_kind};
 ghost use Rattle.sp_text.specs.declared.fault.TextFault.TheVariants as fault;
@@ -20,6 +22,13 @@ pub fn lex(alloc: Global, text: &[u8]) -> Result<Vec<Token>, TextFault>
     requires { length text.now ≤ 67108864 }
     ensures ok { IfOk result (λ tokens. IsTokens text.now tokens.items) }
     ensures err { IfErr result (λ f. (f ≡ fault.Memory) ⊎ IsFirstFault text.now f) }
+
+    // So a text with tokens is answered with them, and one with a fault is refused, but for memory.
+    ensures answered { (tokens : List Token) → IsTokens text.now tokens
+        → MatchResult result (λ found. found.items ≡ tokens) (λ f. f ≡ fault.Memory) }
+    ensures refused { (first : TextFault) → IsFirstFault text.now first
+        → MatchResult result (λ _. ⊥) (λ f. (f ≡ fault.Memory) ⊎ (f ≡ first)) }
+    ensures unsigned { IfOk result (λ tokens. All (λ t. IsUnsigned t.kind) tokens.items) }
 {
     let mut tokens = Vec::new(alloc);
     let mut place = 0;
@@ -55,8 +64,7 @@ fn add_token(
             quantity: Quantity::Tokens,
         }));
     }
-    let kind = token_kind(alloc, lexeme, &text[place..piece.end])
-        .map_err(|_| TextFault::Memory)?;
+    let kind = token_kind(alloc, lexeme, &text[place..piece.end]).map_err(|_| TextFault::Memory)?;
     tokens
         .push(Token { kind, span })
         .map_err(|_| TextFault::Memory)?;

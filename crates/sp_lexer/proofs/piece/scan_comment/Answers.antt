@@ -1,7 +1,4 @@
-use Rattle.std.proofs.Common.{rules, arith}
 use Rattle.sp_lexer.specs.Faults.{open_comment}
-use Rattle.sp_lexer.specs.Pieces.{comment}
-use Rattle.sp_lexer.proofs.Longest.{comment_longest}
 use Rattle.sp_lexer.proofs.piece.scan_comment.Goals as goal
 
 pub returns-in-None-clause-scanned : goal.returns-in-None-clause-scanned

@@ -1,10 +1,9 @@
-use Rattle.std.proofs.Common.{◌≡◌, ◌<◌, ◌≤◌, slice_range, refl, ap, sym, arith, w64, to_z, pos, Some}
+use Rattle.std.proofs.Common.{◌≡◌, ◌<◌, ◌≤◌, slice_range, refl, ap, sym, arith, w64, Some}
 use Rattle.std.proofs.lemmas.Int.{to_z_pos}
-use Rattle.std.proofs.lemmas.Option.{MatchOption-at_some, MatchOption-at_none}
 use Rattle.sp_text.specs.Classes.{digit_byte}
 use Rattle.sp_text.specs.declared.token.TokenKind.TheVariants as kind
 use Rattle.sp_lexer.specs.Faults.{too_large}
-use Rattle.sp_lexer.specs.Pieces.{number, number_of, IsRun}
+use Rattle.sp_lexer.specs.Pieces.{number, number_of}
 use Rattle.sp_lexer.specs.Tokens.{greatest_number}
 use Rattle.sp_lexer.proofs.Longest.{number_longest, run_of}
 use Rattle.sp_lexer.proofs.piece.scan_number.Goals as goal

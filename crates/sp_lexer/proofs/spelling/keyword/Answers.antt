@@ -1,10 +1,8 @@
-use Rattle.std.proofs.Common.{rules, tests, ◌≡◌, Bool, Option, find, MatchOption}
-use Rattle.std.specs.Option.{option_map}
+use Rattle.std.proofs.Common.{rules, tests}
 use Rattle.std.specs.Str.{bytes_eq}
 use Rattle.std.proofs.lemmas.Iterator.{YieldsList-from_slice}
 use Rattle.std.proofs.lemmas.Iterator.Consumers.{YieldsList-from_copied}
 use Rattle.std.proofs.lemmas.Iterator.Search.{find_from_yields_List}
-use Rattle.sp_text.specs.declared.token.Keyword.{Keyword}
 use Rattle.sp_lexer.specs.Spelling.{keyword_text}
 use Rattle.sp_lexer.specs.declared.spelling.TheConstants.{KEYWORDS}
 use Rattle.sp_lexer.proofs.Keywords.{keyword_found}

@@ -1,7 +1,7 @@
-use Rattle.std.proofs.Common.{rules, ◌≡◌, ◌<◌, ◌++◌, ◌∷◌, [], length, inr, Some, None, OnOk, slice_range, refl, sym, ap, ◌∙◌, arith}
+use Rattle.std.proofs.Common.{rules, ◌≡◌, ◌<◌, ◌++◌, ◌∷◌, [], length, inr, Some, None, slice_range, sym, ap, ◌∙◌, arith}
 use Rattle.sp_lexer.specs.Faults.{one_more}
 use Rattle.sp_lexer.specs.Scanned.{scanned_kind, lexeme_kind}
-use Rattle.sp_lexer.specs.Tokens.{kind_of, most_tokens, HasTokens}
+use Rattle.sp_lexer.specs.Tokens.{kind_of, most_tokens}
 use Rattle.sp_lexer.proofs.Division.{gap_added, token_added, IsSome-from_equal}
 use Rattle.sp_lexer.proofs.tokens.add_token.Goals as goal
 

@@ -1,12 +1,11 @@
--- A text has at most one list of tokens, at most one first fault, and never both.
-use Rattle.std.proofs.Common.{◌≡◌, ◌≢◌, ℕ, ◌+◌, ◌-◌, ◌<◌, ◌≤◌, ◌⊎◌, inl, inr, Bool, true, false, List, [], ◌∷◌, ◌++◌, length, Option, Some, None, filter_map, find, codes, refl, sym, ap, ◌∙◌, subst, arith, append-nil, slice_index, slice_range}
+-- A text is divided in one way at most, has at most one list of tokens and at most one first fault, and never both.
+use Rattle.std.proofs.Common.{◌≡◌, ℕ, ◌+◌, ◌-◌, ◌<◌, ◌≤◌, ◌⊎◌, inl, inr, List, [], ◌∷◌, ◌++◌, length, Option, Some, None, filter_map, find, refl, sym, ap, ◌∙◌, subst, arith, append-nil}
 use Rattle.std.specs.List.{cons_option, All}
-use Rattle.std.specs.Option.{option_map, is_some, IsSome}
+use Rattle.std.specs.Option.{option_map, IsSome}
 use Rattle.std.specs.Str.{bytes_eq}
 use Rattle.std.proofs.lemmas.List.{length-append, get_or_at}
 use Rattle.std.proofs.lemmas.List.Elements.{filter_map-append}
 use Rattle.sp_text.specs.declared.token.Token.{Token}
-use Rattle.sp_text.specs.declared.token.TokenKind.{TokenKind}
 use Rattle.sp_text.specs.declared.token.Keyword.{Keyword}
 use Rattle.sp_text.specs.declared.token.Keyword.TheVariants as word
 use Rattle.sp_text.specs.declared.token.Symbol.{Symbol}
@@ -48,9 +47,9 @@ same_symbol s t e = let p : Some s ≡ Some t = sym (symbol_known s) ∙ ap know
 
 some_token : (p : Placed) (rest : List Placed) → IsSome (kind_of p.piece) → 1 ≤ length (filter_map token_of (p ∷ rest))
 some_token p rest s = elim (kind_of p.piece) as (λ o. IsSome o → 1 ≤ length (cons_option (option_map (λ k. token k p.start p.end) o) (filter_map token_of rest))) [
-    Some k ↦ (λ _. omega arith)
+  | Some k ↦ (λ _. omega arith)
   | None ↦ (λ e. cc)
-  ] s
+] s
 
 in_range_at : (ps : List Placed) (p : Placed) (rest : List Placed) → All (λ q. IsInRange q.piece) (ps ++ p ∷ rest) → IsInRange p.piece
 in_range_at ps p rest h = rw (get_or_at ps p rest p (length ps) refl) at (h (length ps) p (omega (arith, length-append ps (p ∷ rest))))
@@ -82,8 +81,8 @@ module _ (text : List ℕ) where
   same_placed p q i a b l m =
       let e = same_longest p.piece q.piece i p.end q.end l m in
       ap (λ (x : Piece). let r : Placed = record { piece = x; start = p.start; end = p.end } in r) e.piece
-        ∙ ap (λ (x : ℕ). let r : Placed = record { piece = q.piece; start = x; end = p.end } in r) (a ∙ sym b)
-        ∙ ap (λ (x : ℕ). let r : Placed = record { piece = q.piece; start = q.start; end = x } in r) e.end
+      ∙ ap (λ (x : ℕ). let r : Placed = record { piece = q.piece; start = x; end = p.end } in r) (a ∙ sym b)
+      ∙ ap (λ (x : ℕ). let r : Placed = record { piece = q.piece; start = q.start; end = x } in r) e.end
 
   -- the second division goes on where the first ends
   pub record GoesOn (ps qs : List Placed) (j k : ℕ) : Type 0 where
@@ -102,8 +101,8 @@ module _ (text : List ℕ) where
       let same : p ≡ q = same_placed p q i d.0 e.0 d.1 e.1 in
       let f : IsDivision text qs p.end k = subst (λ (x : Placed). IsDivision text qs x.end k) (sym same) e.2 in
       elim (compare ps qs p.end j k d.2 f) [
-        inl g ↦ inl (subst (λ (x : Placed). GoesOn (p ∷ ps) (x ∷ qs) j k) same (goes_on_cons p ps qs j k g))
-      | inr g ↦ inr (subst (λ (x : Placed). GoesOn (x ∷ qs) (p ∷ ps) k j) same (goes_on_cons p qs ps k j g))
+        | inl g ↦ inl (subst (λ (x : Placed). GoesOn (p ∷ ps) (x ∷ qs) j k) same (goes_on_cons p ps qs j k g))
+        | inr g ↦ inr (subst (λ (x : Placed). GoesOn (x ∷ qs) (p ∷ ps) k j) same (goes_on_cons p qs ps k j g))
       ]
 
   onwards : (ps : List Placed) (i j : ℕ) → IsDivision text ps i j → i ≤ j
@@ -164,7 +163,7 @@ module _ (text : List ℕ) where
   room_for : (ps rest : List Placed) (p : Placed) → length (filter_map token_of (ps ++ p ∷ rest)) ≤ most_tokens → IsSome (kind_of p.piece) → length (filter_map token_of ps) < most_tokens
   room_for ps rest p h s =
       let e : length (filter_map token_of (ps ++ p ∷ rest)) ≡ length (filter_map token_of ps) + length (filter_map token_of (p ∷ rest)) =
-        ap length (filter_map-append token_of ps (p ∷ rest)) ∙ length-append (filter_map token_of ps) (filter_map token_of (p ∷ rest)) in
+      ap length (filter_map-append token_of ps (p ∷ rest)) ∙ length-append (filter_map token_of ps) (filter_map token_of (p ∷ rest)) in
       omega (arith, e, h, some_token p rest s)
 
   -- a division that goes on from a fault ends there
@@ -179,24 +178,27 @@ module _ (text : List ℕ) where
           let room : IsSome (kind_of p.piece) → length ts < most_tokens = λ s. rw (sym a.tokens_are) (room_for a.pieces rest p (rw w at few) s) in
           absurd (fault_stops (length ts) j f h p.piece p.end d.1 r room)
 
-  -- a text has at most one list of tokens
+  -- a text is divided in one way at most
+  pub same_division : (ps qs : List Placed) → IsDivision text ps 0 (length text) → IsDivision text qs 0 (length text) → ps ≡ qs
+  same_division ps qs d e =
+      let same : (rest xs ys : List Placed) → ys ≡ xs ++ rest → IsDivision text rest (length text) (length text) → xs ≡ ys =
+      λ rest xs ys w f. sym (w ∙ ap (λ zs. xs ++ zs) (nothing rest (length text) (length text) (omega arith) f) ∙ append-nil xs) in
+      elim (compare ps qs 0 (length text) (length text) d e) [
+        | inl g ↦ same g.rest ps qs g.whole g.division
+        | inr g ↦ sym (same g.rest qs ps g.whole g.division)
+      ]
+
+  -- so it has at most one list of tokens
   pub same_tokens : (ts us : List Token) → IsTokens text ts → IsTokens text us → ts ≡ us
-  same_tokens ts us a b =
-      let same : (rest ps qs : List Placed) → qs ≡ ps ++ rest → IsDivision text rest (length text) (length text) → ps ≡ qs =
-        λ rest ps qs w d. sym (w ∙ ap (λ xs. ps ++ xs) (nothing rest (length text) (length text) (omega arith) d) ∙ append-nil ps) in
-      let pieces : a.pieces ≡ b.pieces = elim (compare a.pieces b.pieces 0 (length text) (length text) a.division b.division) [
-          inl g ↦ same g.rest a.pieces b.pieces g.whole g.division
-        | inr g ↦ sym (same g.rest b.pieces a.pieces g.whole g.division)
-        ] in
-      sym a.tokens_are ∙ ap (λ ps. filter_map token_of ps) pieces ∙ b.tokens_are
+  same_tokens ts us a b = sym a.tokens_are ∙ ap (λ ps. filter_map token_of ps) (same_division a.pieces b.pieces a.division b.division) ∙ b.tokens_are
 
   -- at most one first fault
   pub same_first_fault : (f g : TextFault) → IsFirstFault text f → IsFirstFault text g → f ≡ g
   same_first_fault f g a b =
       let met : (a.place ≡ b.place) × (a.tokens ≡ b.tokens) = elim (compare a.before.pieces b.before.pieces 0 a.place b.place a.before.division b.before.division) [
-          inl go ↦ stops_at a.tokens b.tokens a.place b.place f a.before b.before a.here go
+        | inl go ↦ stops_at a.tokens b.tokens a.place b.place f a.before b.before a.here go
         | inr go ↦ (let back = stops_at b.tokens a.tokens b.place a.place g b.before a.before b.here go in (sym back.0, sym back.1))
-        ] in
+      ] in
       let here : HasFault text (length b.tokens) b.place f = rw (met.1, met.0) at a.here in
       same_fault (length b.tokens) b.place f g here b.here
 
@@ -205,6 +207,6 @@ module _ (text : List ℕ) where
   no_fault_with_tokens ts f a b =
       let inside : b.place < length text = fault_inside (length b.tokens) b.place f b.here in
       elim (compare a.pieces b.before.pieces 0 (length text) b.place a.division b.before.division) [
-        inl g ↦ omega (arith, onwards g.rest (length text) b.place g.division, inside)
-      | inr g ↦ (let met = stops_at b.tokens ts b.place (length text) f b.before a b.here g in omega (arith, met.0, inside))
+        | inl g ↦ omega (arith, onwards g.rest (length text) b.place g.division, inside)
+        | inr g ↦ (let met = stops_at b.tokens ts b.place (length text) f b.before a b.here g in omega (arith, met.0, inside))
       ]

@@ -1,7 +1,9 @@
 -- A chain with its laws as one value, and the steps of its reader.
-use Rattle.std.proofs.Common.{◌≡◌, ℕ, suc, zero, ◌+◌, ◌<◌, ◌≤◌, max, Bool, true, false, IsTrue, List, refl}
-use Rattle.sp_grammar.specs.Lang.{Lang, nothing, has, apart, binary, Measures, Exceeds, Refusal, stops, exceeds, Refuses}
-use Rattle.sp_grammar.proofs.Chain.{Sub, Ways}
+use Rattle.std.proofs.Common.{◌≡◌, ℕ, suc, zero, ◌+◌, ◌<◌, ◌≤◌, max, Bool, true, false, IsTrue, List, [], ◌++◌, refl, arith}
+use Rattle.sp_grammar.specs.Lang.{Lang, nothing, has, apart, subset, binary, Measures, Exceeds, Refusal, stops, exceeds, Refuses}
+use Rattle.sp_grammar.proofs.Laws.{Fine}
+use Rattle.sp_grammar.proofs.Lists.{fine_more}
+use Rattle.sp_grammar.proofs.Chain.{Sub, Ways, fine_binary, within_chain}
 use Rattle.sp_grammar.proofs.Steps as steps
 
 pub record Chain (at : ℕ → ℕ) (V : Type 0) : Type 1 where
@@ -48,3 +50,18 @@ module _ (at : ℕ → ℕ) {V : Type 0} (C : Chain at V) where
       pub chain_right_refuses : (b : ℕ) (r : Refusal) → h ≤ b → Refuses C.operand b (suc k) r → Refuses C.form (suc b) i r
       chain_right_refuses b (stops n) f S = steps.right_stops at C.ops C.make C.first C.more C.operand C.form C.ways C.clear C.out C.back C.none C.single C.grows h l i k A o b n f S
       chain_right_refuses b (exceeds n) f S = steps.right_exceeds at C.ops C.make C.first C.more C.operand C.form C.ways C.clear C.out C.back C.none C.single C.grows h l i k A o b n f S
+
+-- The laws of a chain within a budget, from those of its parts.
+pub fine_chain : {V : Type 0} (at : ℕ → ℕ) (ops : List ℕ) (make : ℕ → V → V → ℕ → ℕ → V) (first more wide : List ℕ) (F G : ℕ → Lang V)
+    → IsTrue (apart (more ++ []) (ops ++ [])) → IsTrue (apart more (ops ++ [])) → IsTrue (subset (first ++ []) first) → IsTrue (subset (((more ++ []) ++ (ops ++ [])) ++ more) wide)
+    → ((b : ℕ) → Sub (G (suc b)) (binary at ops make (F (suc b)) (G b) (F b))) → ((b : ℕ) → Sub (binary at ops make (F (suc b)) (G b) (F b)) (G (suc b))) → Sub (G zero) nothing
+    → ((b : ℕ) → Sub (F b) (F (suc b))) → ((b : ℕ) → Sub (G b) (G (suc b)))
+    → (b : ℕ) → Fine at false first more (F (suc b)) → Fine at false first more (F b) → Fine at false first wide (G b)
+    → Fine at false first wide (binary at ops make (F (suc b)) (G b) (F b))
+fine_chain at ops make first more wide F G clear clear2 s t out back none f_grows g_grows b H H0 H1 =
+    fine_more at false (first ++ []) (((more ++ []) ++ (ops ++ [])) ++ more) first wide (binary at ops make (F (suc b)) (G b) (F b)) s t
+    (fine_binary at ops make first more (F (suc b)) (G b) (F b) H
+    (λ v i j n w h u. (out b).part i n ((g_grows b).part i n (H1.closed v i j n w h u)))
+    H0.closed H0.closed_part clear clear2
+    (within_chain at ops make F G f_grows out none b (suc b) (omega arith))
+    (f_grows b))

@@ -1,9 +1,11 @@
 -- A form with one operator at most: its laws, and the steps of its reader.
 use Rattle.std.proofs.Common.{◌≡◌, ℕ, suc, zero, ◌+◌, ◌-◌, ◌<◌, ◌≤◌, ◌⊎◌, inl, inr, max, Bool, true, false, IsTrue, List, [], ◌∷◌, ◌++◌, refl, sym, ◌∙◌, ap, subst, arith}
 use Rattle.std.proofs.lemmas.Bool.{cases_order, cases_lt}
-use Rattle.sp_grammar.specs.Lang.{Lang, Prefix, nothing, has, apart, binary, Measures, Stops, Exceeds, Refusal, stops, exceeds, place, Refuses}
+use Rattle.sp_grammar.specs.Lang.{Lang, Prefix, nothing, has, apart, subset, binary, Measures, Stops, Exceeds, Refusal, stops, exceeds, place, Refuses}
 use Rattle.sp_grammar.proofs.Laws.{Fine, apart-has}
-use Rattle.sp_grammar.proofs.Chain.{Sub, sub_prefix, Ways, grow_to}
+use Rattle.sp_grammar.proofs.Lists.{fine_more}
+use Rattle.sp_grammar.proofs.Guards.{within_sub}
+use Rattle.sp_grammar.proofs.Chain.{Sub, sub_prefix, Ways, grow_to, fine_binary}
 use Rattle.sp_grammar.proofs.Steps as steps
 
 pub record Pair (at : ℕ → ℕ) (V : Type 0) : Type 1 where
@@ -212,3 +214,17 @@ module _ (at : ℕ → ℕ) {V : Type 0} (P : Pair at V) where
   pub pair_first_refuses : (b i : ℕ) (r : Refusal) → Refuses F b i r → Refuses G b i r
   pair_first_refuses b i (stops n) S = pair_first_stops b i n S
   pair_first_refuses b i (exceeds n) E = pair_first_exceeds b i n E
+
+-- The laws of a form with one operator at most, within a budget, from those of its operand.
+pub fine_pair : {V : Type 0} (at : ℕ → ℕ) (ops : List ℕ) (make : ℕ → V → V → ℕ → ℕ → V) (first more wide : List ℕ) (F : ℕ → Lang V)
+    → IsTrue (apart (more ++ []) (ops ++ [])) → IsTrue (apart more (ops ++ [])) → IsTrue (subset (first ++ []) first) → IsTrue (subset (((more ++ []) ++ (ops ++ [])) ++ more) wide)
+    → ((b : ℕ) → Sub (F b) (F (suc b)))
+    → (b : ℕ) → Fine at false first more (F (suc b)) → Fine at false first more (F b)
+    → Fine at false first wide (binary at ops make (F (suc b)) (F b) (F b))
+fine_pair at ops make first more wide F clear clear2 s t grows b H H0 =
+    fine_more at false (first ++ []) (((more ++ []) ++ (ops ++ [])) ++ more) first wide (binary at ops make (F (suc b)) (F b) (F b)) s t
+    (fine_binary at ops make first more (F (suc b)) (F b) (F b) H
+    (λ v i j n w h u. inl ((grows b).part i n (H0.closed v i j n w h u)))
+    H0.closed H0.closed_part clear clear2
+    (within_sub at ops make (F b) (F (suc b)) (grows b))
+    (grows b))

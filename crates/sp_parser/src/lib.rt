@@ -1,0 +1,2 @@
+//! Reads the grammars of texts from their tokens.
+#![tactic(auto)]

@@ -92,13 +92,16 @@ module _ (at : ℕ → ℕ) {B W : Type 0} (x : ℕ) (g : Rule at B) (L : ℕ �
   blocked o t never (d, p) = o.refuses (exceeds k) (record {
     so_far = inl (inl refl);
     front = λ m q. elim q [
-        inl y ↦ elim y [ inl e ↦ omega arith | inr (a, k2, w, z) ↦ absurd (never m (inl (subst (λ n. (g.form b).part n m) w.1 z))) ]
+      | inl y ↦ elim y [ inl e ↦ omega arith | inr (a, k2, w, z) ↦ absurd (never m (inl (subst (λ n. (g.form b).part n m) w.1 z))) ]
       | inr (v, (k2, w, z)) ↦ absurd (never m (inr (v.1, subst (λ n. (g.form b).whole v.1 n m) w.1 z)))
-      ];
-    over = (d, elim p [
-        inl y ↦ inl (inr (tt, suc k, (t, refl), y))
-      | inr (v, y) ↦ inr ((tt, v), (suc k, (t, refl), y))
-      ]);
+    ];
+    over = (
+      d,
+      elim p [
+        | inl y ↦ inl (inr (tt, suc k, (t, refl), y))
+        | inr (v, y) ↦ inr ((tt, v), (suc k, (t, refl), y))
+      ],
+    );
   })
 
 module _ (at : ℕ → ℕ) {W : Type 0} (x : ℕ) (L : ℕ → Lang W) (b k c i : ℕ) (value : Unit {0} → ℕ → W) (up : ℕ → ℕ) where
@@ -123,12 +126,12 @@ module _ (at : ℕ → ℕ) {V : Type 0} (f : Rule at V) (p : f.null ≡ false) 
       let x = S.front d (suc k) q in
       optional_refuses at f.first f.more f.form (some_fine at f p) k b (stops n) (omega arith) S
   given_refuses d q (exceeds n) E = elim (cases_lt k n) [
-      inl lt ↦ optional_refuses at f.first f.more f.form (some_fine at f p) k b (exceeds n) lt E
+    | inl lt ↦ optional_refuses at f.first f.more f.form (some_fine at f p) k b (exceeds n) lt E
     | inr ge ↦ (
         let le = refuses_ahead at false f.first f.more f.form (some_fine at f p) b k (exceeds n) E in
         let e : n ≡ k = omega arith in
         subst (λ z. Exceeds (λ d. optional (f.form d)) b k z) (sym e) (optional_exceeds_here at f.first f.more f.form (some_fine at f p) k b (subst (λ z. Exceeds f.form b k z) e E)))
-    ]
+  ]
 
 -- a place for a form, without tokens
 pub room_reads : {V : Type 0} (F : ℕ → Lang V) → ((d n : ℕ) → (F (suc d)).part n n) → ((n : ℕ) → (F zero).part n n → ⊥) → (b k : ℕ) → 1 ≤ b → Measures (λ d. room (F d)) b tt 1 k k
@@ -148,9 +151,9 @@ pub none_begins : (at : ℕ → ℕ) {V : Type 0} (f : Rule at V) (p : f.null �
 none_begins at f p b i q off = record {
   so_far = inl q;
   front = λ c m x. elim (cases_lt i m) [
-      inl lt ↦ absurd (off (begins c m x lt))
+    | inl lt ↦ absurd (off (begins c m x lt))
     | inr ge ↦ ge
-    ];
+  ];
   not_whole = λ c v w. elim ((some_fine at f p c).span v i i w) [ inl lt ↦ omega arith | inr e ↦ (let z : false ≡ true = e.0 in cc) ];
 }
   where

@@ -9,3 +9,4 @@ pub mod Rules
 pub mod Inside
 pub mod Pairs
 pub mod Chains
+pub mod Tokens

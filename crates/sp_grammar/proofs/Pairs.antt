@@ -47,21 +47,21 @@ module _ (at : ℕ → ℕ) {V : Type 0} (P : Pair at V) where
   parted zero i m (inl p) = absurd (P.none.part i m p)
   parted zero i m (inr (v, w)) = absurd (P.none.whole v i m w)
   parted (suc d) i m (inl p) = elim ((P.out d).part i m p) [
-      inl x ↦ inl (inl x)
+    | inl x ↦ inl (inl x)
     | inr (l, k, x, q) ↦ inr (d, l, k, refl, x, elim q [ inl e ↦ inl e | inr (o, y) ↦ inr (o, inl y) ])
-    ]
+  ]
   parted (suc d) i m (inr (v, w)) = elim ((P.out d).whole v i m w) [
-      inl x ↦ inl (inr (v, x))
+    | inl x ↦ inl (inr (v, x))
     | inr (l, r, k, x, o, y, e) ↦ inr (d, l, k, refl, x, inr (o, inr (r, y)))
-    ]
+  ]
 
   parted_whole : (c i m : ℕ) (v : V) → (G c).whole v i m
       → (F c).whole v i m ⊎ ((d : ℕ) × (l : V) × (r : V) × (k : ℕ) × (c ≡ suc d) × (F d).whole l i k × Op k × (F d).whole r (suc k) m)
   parted_whole zero i m v w = absurd (P.none.whole v i m w)
   parted_whole (suc d) i m v w = elim ((P.out d).whole v i m w) [
-      inl x ↦ inl x
+    | inl x ↦ inl x
     | inr (l, r, k, x, o, y, e) ↦ inr (d, l, r, k, refl, x, o, y)
-    ]
+  ]
 
   -- the left part is refused
   module _ (b i n : ℕ) where
@@ -69,40 +69,40 @@ module _ (at : ℕ → ℕ) {V : Type 0} (P : Pair at V) where
     pair_first_stops S = record {
       so_far = sub_prefix (F b) (G b) i n (P.single b) S.so_far;
       front = λ c m p. elim (parted c i m p) [
-          inl x ↦ S.front c m x
+        | inl x ↦ S.front c m x
         | inr (d, l, k, e, x, q) ↦ elim q [
-              inl f ↦ (let u = S.front d k (inr (l, x)) in omega arith)
-            | inr (o, y) ↦ absurd (ends d l k x o)
-          ]
-        ];
+          | inl f ↦ (let u = S.front d k (inr (l, x)) in omega arith)
+          | inr (o, y) ↦ absurd (ends d l k x o)
+        ]
+      ];
       not_whole = λ c v w. elim (parted_whole c i n v w) [
-          inl x ↦ S.not_whole c v x
+        | inl x ↦ S.not_whole c v x
         | inr (d, l, r, k, e, x, o, y) ↦ ends d l k x o
-        ];
+      ];
     }
       where
         ends : (d : ℕ) (l : V) (k : ℕ) → (F d).whole l i k → Op k → ⊥
         ends d l k x o = elim (cases_lt k n) [
-            inl lt ↦ clash k o (mix d b l i k n x S.so_far lt)
+          | inl lt ↦ clash k o (mix d b l i k n x S.so_far lt)
           | inr ge ↦ (
               let u = S.front d k (inr (l, x)) in
               let e : k ≡ n = omega arith in
               S.not_whole d l (subst (λ z. (F d).whole l i z) e x))
-          ]
+        ]
 
     pub pair_first_exceeds : Exceeds F b i n → Exceeds G b i n
     pair_first_exceeds E = record {
       so_far = sub_prefix (F b) (G b) i n (P.single b) E.so_far;
       front = λ m p. elim (parted b i m p) [
-          inl x ↦ E.front m x
+        | inl x ↦ E.front m x
         | inr (d, l, k, e, x, q) ↦ (
             let x' : (F b).whole l i k = (up d b (omega (arith, e))).whole l i k x in
             let u = E.front k (inr (l, x')) in
             elim q [
-              inl f ↦ omega arith
-            | inr (o, y) ↦ absurd (clash k o (mix d (E.over.0) l i k (suc n) x E.over.1 (omega arith)))
+              | inl f ↦ omega arith
+              | inr (o, y) ↦ absurd (clash k o (mix d (E.over.0) l i k (suc n) x E.over.1 (omega arith)))
             ])
-        ];
+      ];
       over = (E.over.0, sub_prefix (F (E.over.0)) (G (E.over.0)) i (suc n) (P.single (E.over.0)) E.over.1);
     }
 
@@ -113,8 +113,8 @@ module _ (at : ℕ → ℕ) {V : Type 0} (P : Pair at V) where
     ends_there d l k' x o =
         let u = M.front d k' (inr (l, x)) in
         elim (cases_lt k' k) [
-          inl lt ↦ absurd (clash k' o (mix d h l i k' k x (inr (v, M.whole)) lt))
-        | inr ge ↦ omega arith
+          | inl lt ↦ absurd (clash k' o (mix d h l i k' k x (inr (v, M.whole)) lt))
+          | inr ge ↦ omega arith
         ]
 
     pub pair_stop : (b : ℕ) → h ≤ b → (Op k → ⊥) → Measures G b v h i k
@@ -122,16 +122,16 @@ module _ (at : ℕ → ℕ) {V : Type 0} (P : Pair at V) where
       whole = (P.single h).whole v i k M.whole;
       fits = fit;
       least = λ c w x. elim (parted_whole c i k w x) [
-          inl y ↦ M.least c w y
+        | inl y ↦ M.least c w y
         | inr (d, l, r, k', e, y, o, z) ↦ absurd (off (subst Op (ends_there d l k' y o) o))
-        ];
+      ];
       front = λ c m p. elim (parted c i m p) [
-          inl x ↦ M.front c m x
+        | inl x ↦ M.front c m x
         | inr (d, l, k', e, x, q) ↦ elim q [
-              inl f ↦ (let u = M.front d k' (inr (l, x)) in omega arith)
-            | inr (o, y) ↦ absurd (off (subst Op (ends_there d l k' x o) o))
-          ]
-        ];
+          | inl f ↦ (let u = M.front d k' (inr (l, x)) in omega arith)
+          | inr (o, y) ↦ absurd (off (subst Op (ends_there d l k' x o) o))
+        ]
+      ];
     }
 
     module _ (o : Op k) where
@@ -143,12 +143,12 @@ module _ (at : ℕ → ℕ) {V : Type 0} (P : Pair at V) where
       pair_high b p q = record {
         so_far = inr (v, (P.single b).whole v i k ((up h b p).whole v i k M.whole));
         front = λ m x. elim (parted b i m x) [
-            inl y ↦ M.front b m y
+          | inl y ↦ M.front b m y
           | inr (d, l, k', e, y, z) ↦ elim z [
-                inl f ↦ (let u = M.front d k' (inr (l, y)) in omega arith)
-              | inr (o', w) ↦ absurd (let u = M.least d l (subst (λ n. (F d).whole l i n) (ends_there d l k' y o') y) in omega arith)
-            ]
-          ];
+            | inl f ↦ (let u = M.front d k' (inr (l, y)) in omega arith)
+            | inr (o', w) ↦ absurd (let u = M.least d l (subst (λ n. (F d).whole l i n) (ends_there d l k' y o') y) in omega arith)
+          ]
+        ];
         over = (suc (suc h), inl ((P.back (suc h)).part i (suc k) (inr (v, k, (P.ways.grows h).whole v i k M.whole, inr (o, P.ways.empty h (suc k))))));
       }
 
@@ -160,20 +160,20 @@ module _ (at : ℕ → ℕ) {V : Type 0} (P : Pair at V) where
             whole = (P.back (max h h2)).whole _ i j (inr (v, r, k, (up h (max h h2) (omega arith)).whole v i k M.whole, o, (up h2 (max h h2) (omega arith)).whole r (suc k) j N.whole, refl));
             fits = omega arith;
             least = λ c w x. elim (parted_whole c i j w x) [
-                inl y ↦ absurd (let u = M.front c j (inr (w, y)) in omega arith)
+              | inl y ↦ absurd (let u = M.front c j (inr (w, y)) in omega arith)
               | inr (d, l, r', k', e, y, o', z) ↦ (
                   let f = ends_there d l k' y o' in
                   let a = M.least d l (subst (λ n. (F d).whole l i n) f y) in
                   let a2 = N.least d r' (subst (λ n. (F d).whole r' (suc n) j) f z) in
                   omega arith)
-              ];
+            ];
             front = λ c m p. elim (parted c i m p) [
-                inl x ↦ (let u = M.front c m x in omega arith)
+              | inl x ↦ (let u = M.front c m x in omega arith)
               | inr (d, l, k', e, x, q) ↦ elim q [
-                    inl f ↦ (let u = M.front d k' (inr (l, x)) in omega arith)
-                  | inr (o', y) ↦ N.front d m (subst (λ n. Prefix (F d) (suc n) m) (ends_there d l k' x o') y)
-                ]
-              ];
+                | inl f ↦ (let u = M.front d k' (inr (l, x)) in omega arith)
+                | inr (o', y) ↦ N.front d m (subst (λ n. Prefix (F d) (suc n) m) (ends_there d l k' x o') y)
+              ]
+            ];
           }
 
       so_far : (b m : ℕ) → h ≤ b → Prefix (F b) (suc k) m → Prefix (G (suc b)) i m
@@ -186,28 +186,28 @@ module _ (at : ℕ → ℕ) {V : Type 0} (P : Pair at V) where
           record {
             so_far = so_far b n fit S.so_far;
             front = λ c m p. elim (parted c i m p) [
-                inl x ↦ (let u = M.front c m x in omega arith)
+              | inl x ↦ (let u = M.front c m x in omega arith)
               | inr (d, l, k', e, x, q) ↦ elim q [
-                    inl f ↦ (let u = M.front d k' (inr (l, x)) in omega arith)
-                  | inr (o', y) ↦ S.front d m (subst (λ z. Prefix (F d) (suc z) m) (ends_there d l k' x o') y)
-                ]
-              ];
+                | inl f ↦ (let u = M.front d k' (inr (l, x)) in omega arith)
+                | inr (o', y) ↦ S.front d m (subst (λ z. Prefix (F d) (suc z) m) (ends_there d l k' x o') y)
+              ]
+            ];
             not_whole = λ c w x. elim (parted_whole c i n w x) [
-                inl y ↦ (let u = M.front c n (inr (w, y)) in omega arith)
+              | inl y ↦ (let u = M.front c n (inr (w, y)) in omega arith)
               | inr (d, l, r', k', e, y, o', z) ↦ S.not_whole d r' (subst (λ m. (F d).whole r' (suc m) n) (ends_there d l k' y o') z)
-              ];
+            ];
           }
       pair_right_refuses b (exceeds n) fit E =
           let kn = steps.ahead at P.first P.more F P.ways b (suc k) n E.so_far in
           record {
             so_far = so_far b n fit E.so_far;
             front = λ m p. elim (parted (suc b) i m p) [
-                inl x ↦ (let u = M.front (suc b) m x in omega arith)
+              | inl x ↦ (let u = M.front (suc b) m x in omega arith)
               | inr (d, l, k', e, x, q) ↦ elim q [
-                    inl f ↦ (let u = M.front d k' (inr (l, x)) in omega arith)
-                  | inr (o', y) ↦ E.front m (sub_prefix (F d) (F b) (suc k) m (up d b (omega (arith, e))) (subst (λ z. Prefix (F d) (suc z) m) (ends_there d l k' x o') y))
-                ]
-              ];
+                | inl f ↦ (let u = M.front d k' (inr (l, x)) in omega arith)
+                | inr (o', y) ↦ E.front m (sub_prefix (F d) (F b) (suc k) m (up d b (omega (arith, e))) (subst (λ z. Prefix (F d) (suc z) m) (ends_there d l k' x o') y))
+              ]
+            ];
             over = (suc (E.over.0 + h), so_far (E.over.0 + h) (suc n) (omega arith) (sub_prefix (F (E.over.0)) (F (E.over.0 + h)) (suc k) (suc n) (up (E.over.0) (E.over.0 + h) (omega arith)) E.over.1));
           }
 

@@ -1,2 +1,4 @@
 //! Reads the grammars of texts from their tokens.
 #![tactic(auto)]
+
+mod tokens;

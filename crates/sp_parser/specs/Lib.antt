@@ -1,3 +1,4 @@
 pub mod Contract
 pub mod Grammar
+pub mod Levels
 pub mod Marks

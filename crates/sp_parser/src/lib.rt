@@ -1,4 +1,5 @@
 //! Reads the grammars of texts from their tokens.
 #![tactic(auto)]
 
+mod level;
 mod tokens;

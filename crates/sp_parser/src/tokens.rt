@@ -1,4 +1,4 @@
-ghost use Rattle.std.specs.Prelude.{◌≡◌, ◌+◌, ◌<◌, ◌≤◌, ◌↔◌, length, suc, IsTrue, IfErr, IfOk, IfSome, IfNone, Some, slice_get, max};
+ghost use Rattle.std.specs.Prelude.{◌≡◌, ◌+◌, ◌<◌, ◌≤◌, ◌↔◌, length, eqb, suc, IsTrue, IfErr, IfOk, IfSome, IfNone, Some, slice_get, max};
 ghost use Rattle.sp_grammar.specs.Lang.{has};
 ghost use Rattle.sp_text.specs.declared.token.TokenKind.TheVariants as kind;
 ghost use Rattle.sp_text.specs.declared.fault.TextFault.TheVariants as fault;
@@ -19,6 +19,80 @@ pub enum Mark {
     Word(Keyword),
     Symbol(Symbol),
 }
+
+pub const LEFT_PARENTHESIS: Mark = Mark::Symbol(Symbol::LeftParenthesis);
+
+pub const RIGHT_PARENTHESIS: Mark = Mark::Symbol(Symbol::RightParenthesis);
+
+pub const COMMA: Mark = Mark::Symbol(Symbol::Comma);
+
+pub const COLON: Mark = Mark::Symbol(Symbol::Colon);
+
+pub const EQUAL: Mark = Mark::Symbol(Symbol::Equal);
+
+pub const NOT_EQUAL: Mark = Mark::Symbol(Symbol::NotEqual);
+
+pub const LESS: Mark = Mark::Symbol(Symbol::Less);
+
+pub const LESS_OR_EQUAL: Mark = Mark::Symbol(Symbol::LessOrEqual);
+
+pub const GREATER: Mark = Mark::Symbol(Symbol::Greater);
+
+pub const GREATER_OR_EQUAL: Mark = Mark::Symbol(Symbol::GreaterOrEqual);
+
+pub const PLUS: Mark = Mark::Symbol(Symbol::Plus);
+
+pub const MINUS: Mark = Mark::Symbol(Symbol::Minus);
+
+pub const ASTERISK: Mark = Mark::Symbol(Symbol::Star);
+
+pub const QUOTE: Mark = Mark::Symbol(Symbol::Quote);
+
+pub const QUESTION: Mark = Mark::Symbol(Symbol::Question);
+
+pub const BOOLEAN: Mark = Mark::Word(Keyword::Boolean);
+
+pub const INTEGER: Mark = Mark::Word(Keyword::Integer);
+
+pub const LEVEL: Mark = Mark::Word(Keyword::Level);
+
+pub const IF: Mark = Mark::Word(Keyword::If);
+
+pub const THEN: Mark = Mark::Word(Keyword::Then);
+
+pub const ELSE: Mark = Mark::Word(Keyword::Else);
+
+pub const END_IF: Mark = Mark::Word(Keyword::EndIf);
+
+pub const FORALL: Mark = Mark::Word(Keyword::Forall);
+
+pub const END_FORALL: Mark = Mark::Word(Keyword::EndForall);
+
+pub const EXISTS: Mark = Mark::Word(Keyword::Exists);
+
+pub const END_EXISTS: Mark = Mark::Word(Keyword::EndExists);
+
+pub const NOT: Mark = Mark::Word(Keyword::Not);
+
+pub const AND: Mark = Mark::Word(Keyword::And);
+
+pub const OR: Mark = Mark::Word(Keyword::Or);
+
+pub const IMPLIES: Mark = Mark::Word(Keyword::Implies);
+
+pub const IFF: Mark = Mark::Word(Keyword::Iff);
+
+pub const LUB: Mark = Mark::Word(Keyword::Lub);
+
+pub const GLB: Mark = Mark::Word(Keyword::Glb);
+
+pub const TRUE: Mark = Mark::Word(Keyword::True);
+
+pub const FALSE: Mark = Mark::Word(Keyword::False);
+
+pub const BOTTOM: Mark = Mark::Word(Keyword::Bottom);
+
+pub const TOP: Mark = Mark::Word(Keyword::Top);
 
 fn word_number(word: Keyword) -> u8
     ensures { result ≡ word_code word }
@@ -65,10 +139,11 @@ fn code(tokens: &[Token], place: usize) -> u8
 
 /// Whether this token stands there.
 pub fn is(tokens: &[Token], place: usize, mark: Mark) -> bool
+    ensures value { result ≡ eqb (mark_code mark) (code_at tokens.now place) }
     ensures same { IsTrue result ↔ (code_at tokens.now place ≡ mark_code mark) }
     ensures within { IsTrue result → place < length tokens.now }
 {
-    code(tokens, place) == mark_number(mark)
+    mark_number(mark) == code(tokens, place)
 }
 
 /// Whether an expression can begin with the token.

@@ -11,4 +11,4 @@ some_code (mark.Word w) = (word_range w).0
 some_code (mark.Symbol s) = (symbol_range s).0
 
 pub returns-clause-within : goal.returns-clause-within
-returns-clause-within c = λ t. code_within c.args.tokens.now c.args.place (mark_code c.args.mark) (sym c.code.ensures ∙ eqb-true _ _ t ∙ c.mark_number.ensures) (some_code c.args.mark)
+returns-clause-within c = λ t. code_within c.args.tokens.now c.args.place (mark_code c.args.mark) (sym c.code.ensures ∙ sym (eqb-true _ _ t) ∙ c.mark_number.ensures) (some_code c.args.mark)

@@ -3,7 +3,7 @@ use Rattle.std.proofs.Common.{◌≡◌, ℕ, suc, zero, max, ◌+◌, ◌<◌, 
 use Rattle.std.proofs.lemmas.Bool.{cases_lt}
 use Rattle.sp_grammar.specs.Lang.{Lang, Prefix, nothing, lower, seq, either, made, star, optional, token, behind, room, has, apart, Measures, Stops, Exceeds, Refusal, stops, exceeds, place, Refuses}
 use Rattle.sp_grammar.proofs.Laws.{Fine, has-cons}
-use Rattle.sp_grammar.proofs.Chain.{Sub, sub_refl, sub_nothing, swap_either}
+use Rattle.sp_grammar.proofs.Chain.{Sub, sub_refl, sub_nothing, swap_either, sub_prefix}
 use Rattle.sp_grammar.proofs.Places.{seq_reads, token_reads, token_stops, made_reads, either_reads, neither, lower_reads}
 use Rattle.sp_grammar.proofs.Lists.{Many, none, one_more, all_read, optional_reads, optional_refuses, optional_exceeds_here, left_out}
 use Rattle.sp_grammar.proofs.Refusals.{ahead_prefix, refuses_ahead, refuses_made, refuses_second, refuses_first, refuses_lower, refuses_either, refuses_item}
@@ -29,18 +29,67 @@ pub record Inside {V W : Type 0} (G : ℕ → Lang V) (b k : ℕ) (L : ℕ → L
 pub itself : {V : Type 0} (G : ℕ → Lang V) (b i : ℕ) → Inside G b i G b i (λ w j. w) (λ h. h)
 itself G b i = record { reads = λ w h j M. M; refuses = λ r S. S }
 
+-- two forms that are the same at each budget
+module _ {V : Type 0} (F E : ℕ → Lang V) (out : (b : ℕ) → Sub (E b) (F b)) (back : (b : ℕ) → Sub (F b) (E b)) where
+  pub as_same : (b i : ℕ) → Inside F b i E b i (λ w j. w) (λ h. h)
+  as_same b i = record { reads = reads; refuses = refuses }
+    where
+      reads : (w : V) (h j : ℕ) → Measures F b w h i j → Measures E b w h i j
+      reads w h j M = record {
+        whole = (back h).whole w i j M.whole;
+        fits = M.fits;
+        least = λ c v x. M.least c v ((out c).whole v i j x);
+        front = λ c m p. M.front c m (sub_prefix (E c) (F c) i m (out c) p);
+      }
+
+      refuses : (r : Refusal) → Refuses F b i r → Refuses E b i r
+      refuses (stops n) S = record {
+        so_far = sub_prefix (F b) (E b) i n (back b) S.so_far;
+        front = λ c m p. S.front c m (sub_prefix (E c) (F c) i m (out c) p);
+        not_whole = λ c v w. S.not_whole c v ((out c).whole v i n w);
+      }
+      refuses (exceeds n) S = record {
+        so_far = sub_prefix (F b) (E b) i n (back b) S.so_far;
+        front = λ m p. S.front m (sub_prefix (E b) (F b) i m (out b) p);
+        over = (S.over.0, sub_prefix (F (S.over.0)) (E (S.over.0)) i (suc n) (back (S.over.0)) S.over.1);
+      }
+
 -- a form within one that has one more to spend on height
-pub under : {V : Type 0} (G : ℕ → Lang V) (b i : ℕ) → Inside G b i (lower G) (suc b) i (λ w j. w) suc
-under G b i = record {
-  reads = λ w h j M. lower_reads G (lower G) (λ d. sub_refl _) (λ d. sub_refl _) (sub_refl _) b h i j w M;
-  refuses = λ r S. refuses_lower G (lower G) (λ d. sub_refl _) (λ d. sub_refl _) (sub_refl _) b i r S;
+pub under : {V : Type 0} (F L : ℕ → Lang V) → ((b : ℕ) → Sub (L (suc b)) (F b)) → ((b : ℕ) → Sub (F b) (L (suc b))) → Sub (L zero) nothing
+    → (b c i : ℕ) → c ≡ suc b → Inside F b i L c i (λ w j. w) suc
+under F L out back none b c i e = subst (λ z. Inside F b i L z i (λ w j. w) suc) (sym e) (record {
+  reads = λ w h j M. lower_reads F L out back none b h i j w M;
+  refuses = λ r S. refuses_lower F L out back none b i r S;
+})
+
+-- a form of fixed tokens, with which no token goes on
+pub closed_reads : (at : ℕ → ℕ) {V : Type 0} (null : Bool) (first : List ℕ) (L : Lang V) → Fine at null first [] L → (b i j : ℕ) (v : V) → L.whole v i j → Measures (λ (_ : ℕ). L) b v 0 i j
+closed_reads at null first L F b i j v w = record {
+  whole = w;
+  fits = omega arith;
+  least = λ c u x. omega arith;
+  front = λ c m p. elim (cases_lt j m) [
+    | inl lt ↦ absurd (let h : false ≡ true = elim p [ inl q ↦ F.goes_on_part v i j m w q lt | inr (u, x) ↦ F.goes_on v u i j m w x lt ] in cc)
+    | inr ge ↦ ge
+  ];
 }
+
+-- a refusal of fixed tokens hangs on no budget
+pub at_any : {V : Type 0} (L : Lang V) (b c i : ℕ) (r : Refusal) → Refuses (λ (_ : ℕ). L) b i r → Refuses (λ (_ : ℕ). L) c i r
+at_any L b c i (stops n) S = record { so_far = S.so_far; front = S.front; not_whole = S.not_whole }
+at_any L b c i (exceeds n) S = record { so_far = S.so_far; front = S.front; over = S.over }
 
 module _ {V W : Type 0} (L : ℕ → Lang W) (b k c i : ℕ) (value : V → ℕ → W) (up : ℕ → ℕ) where
   pub of_made : {A : Type 0} (h : A → ℕ → ℕ → V) (F : ℕ → Lang A) → Inside (λ d. made h (F d)) b k L c i value up → Inside F b k L c i (λ w j. value (h w k j) j) up
   of_made h F o = record {
     reads = λ w x j M. o.reads (h w k j) x j (made_reads h F b x k j w M);
     refuses = λ r S. o.refuses r (refuses_made h F b k r S);
+  }
+
+  pub of_lower : (F : ℕ → Lang V) (d : ℕ) → b ≡ suc d → Inside (lower F) b k L c i value up → Inside F d k L c i value (λ x. up (suc x))
+  of_lower F d e o = let o' : Inside (lower F) (suc d) k L c i value up = subst (λ z. Inside (lower F) z k L c i value up) e o in record {
+    reads = λ w h j M. o'.reads w (suc h) j (lower_reads F (lower F) (λ d. sub_refl _) (λ d. sub_refl _) (sub_refl _) d h k j w M);
+    refuses = λ r S. o'.refuses r (refuses_lower F (lower F) (λ d. sub_refl _) (λ d. sub_refl _) (sub_refl _) d k r S);
   }
 
 module _ (at : ℕ → ℕ) {V W : Type 0} (L : ℕ → Lang W) (b k c i : ℕ) (value : V → ℕ → W) (up : ℕ → ℕ) where

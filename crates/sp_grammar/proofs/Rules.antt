@@ -1,8 +1,8 @@
 -- A form with a budget, its sets and its laws as one value, for each way to put forms together.
 use Rattle.std.proofs.Common.{◌≡◌, ℕ, suc, ◌+◌, ◌⊎◌, inl, inr, Bool, true, false, ◌&&◌, IsTrue, List, [], ◌∷◌, ◌++◌, Option, cond, refl, sym, subst}
-use Rattle.sp_grammar.specs.Lang.{Lang, seq, either, made, star, optional, token, behind, room, has, apart, subset}
+use Rattle.sp_grammar.specs.Lang.{Lang, seq, either, made, star, optional, token, behind, lower, room, has, apart, subset}
 use Rattle.sp_grammar.proofs.Laws.{Fine, fine_seq, fine_either, fine_made, fine_token, fine_star}
-use Rattle.sp_grammar.proofs.Chain.{Sub, sub_refl, sub_seq, sub_either, sub_made}
+use Rattle.sp_grammar.proofs.Chain.{Sub, sub_refl, sub_seq, sub_either, sub_made, fine_lower, lower_grows}
 use Rattle.sp_grammar.proofs.Lists.{sub_star, sub_optional, fine_optional, fine_more}
 use Rattle.sp_grammar.proofs.Guards.{fine_room}
 use Rattle.sp_grammar.proofs.Places.{Goes}
@@ -94,6 +94,17 @@ module _ (at : ℕ → ℕ) where
     form = λ b. room (f.form b);
     fine = λ b. fine_room at (f.form b);
     grows = λ b. sub_room _ _ (f.grows b);
+  }
+
+  -- the same with one less to spend on height
+  abbrev pub lower_rule : {V : Type 0} → Rule at V → Rule at V
+  lower_rule f = record {
+    null = f.null;
+    first = f.first;
+    more = f.more;
+    form = lower f.form;
+    fine = λ b. fine_lower at f.null f.first f.more f.form f.fine b;
+    grows = λ b. lower_grows f.form f.grows b;
   }
 
   -- the same with larger sets

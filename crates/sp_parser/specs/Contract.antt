@@ -6,7 +6,15 @@ use Rattle.sp_text.specs.declared.fault.TextFault.TheVariants as fault
 use Rattle.sp_text.specs.declared.fault.Rule.TheVariants.{Unexpected}
 use Rattle.sp_text.specs.declared.fault.Quantity.TheVariants.{Height}
 use Rattle.sp_grammar.specs.Lang.{Lang, Measures, Stops, Exceeds}
-use Rattle.sp_grammar.specs.Codes.{place_of, name_code, number_code, word_if, word_forall, word_exists, word_not, word_lub, word_glb, word_true, word_false, word_bottom, word_top, left_parenthesis, minus, quote, question}
+use Rattle.sp_grammar.specs.Codes.{place_of, name_code, number_code, word_boolean, word_integer, word_level, word_if, word_forall, word_exists, word_not, word_lub, word_glb, word_true, word_false, word_bottom, word_top, left_parenthesis, minus, quote, question}
+
+-- the tokens that are constants
+abbrev pub constant_first : List ℕ
+constant_first = word_true ∷ word_false ∷ question ∷ word_bottom ∷ word_top ∷ []
+
+-- the tokens that a type begins with
+abbrev pub type_first : List ℕ
+type_first = word_boolean ∷ word_integer ∷ word_level ∷ name_code ∷ []
 
 -- the tokens that a primary begins with
 abbrev pub primary_first : List ℕ

@@ -1,5 +1,7 @@
 //! Reads the grammars of texts from their tokens.
 #![tactic(auto)]
 
+mod build;
+mod leaf;
 mod level;
 mod tokens;

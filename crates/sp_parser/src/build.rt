@@ -43,7 +43,7 @@ pub fn binary(
 }
 
 /// NOT of an operand.
-pub fn negation(alloc: Global, operand: ExprTree) -> Result<ExprNode, AllocError>
+pub fn negate(alloc: Global, operand: ExprTree) -> Result<ExprNode, AllocError>
     ensures { IfOk result (λ n. n ≡ node.Not operand) }
 {
     Ok(ExprNode::Not(Boxed::new(alloc, operand)?))

@@ -1,7 +1,9 @@
-ghost use Rattle.std.specs.Prelude.{◌≡◌, ◌<◌, ◌≤◌, ◌+◌, suc, length, All, IsTrue, IfOk, IfSome, IfNone, MatchResult, Some, None, slice_get};
+ghost use Rattle.std.specs.Prelude.{◌≡◌, ◌<◌, ◌≤◌, ◌+◌, suc, length, All, IsTrue, IfOk, IfSome, IfNone, MatchResult, Some, None, slice_get, pos, ◌≤ℤ◌, ◌-ℤ◌};
+ghost use Rattle.sp_text.specs.declared.fault.Span.{Span as ContractSpan};
 ghost use Rattle.sp_text.specs.declared.token.TokenKind.TheVariants as kind;
+ghost use Rattle.sp_tree.specs.declared.expr.ExprNode.TheVariants as node;
 ghost use Rattle.sp_grammar.specs.Lang.{has, Measures};
-ghost use Rattle.sp_grammar.specs.Codes.{code_at, minus, name_code, span_of};
+ghost use Rattle.sp_grammar.specs.Codes.{code_at, minus, name_code, number_code, span_of};
 ghost use Rattle.sp_lexer.specs.Tokens.{IsUnsigned};
 ghost use Rattle.sp_parser.specs.Contract.{constant_first, type_first, Fails};
 ghost use Rattle.sp_parser.specs.Grammar.{constant_line, formal_line, number_line, tree as spanned, type_line};
@@ -39,6 +41,28 @@ pub fn constant_at(tokens: &[Token], place: usize) -> Option<ExprNode>
     None
 }
 
+/// The number that stands there, if one does, which has no sign.
+fn unsigned_at(tokens: &[Token], place: usize) -> Option<i64>
+    requires { All (λ t. IsUnsigned t.kind) tokens.now }
+    ensures none { IfNone result (code_at tokens.now place ≡ number_code → ⊥) }
+    ensures some { IfSome result (λ n. (s : ContractSpan) × (slice_get tokens.now place ≡ Some (record { kind = kind.Number n; span = s }))) }
+    ensures sign { IfSome result (λ n. pos 0 ≤ℤ n) }
+    ensures within { IfSome result (λ _. place < length tokens.now) }
+{
+    match number_at(tokens, place) {
+        Some((number, _)) => Some(number),
+        None => None,
+    }
+}
+
+/// The number with a sign.
+fn opposite(number: i64) -> ExprNode
+    requires { pos 0 ≤ℤ number }
+    ensures { result ≡ node.Number (pos 0 -ℤ number) }
+{
+    ExprNode::Number(0 - number)
+}
+
 /// The number behind a sign.
 pub fn negative(tokens: &[Token], start: usize, end: u32) -> Result<ExprTree, TextFault>
     requires opens { code_at tokens.now start ≡ minus }
@@ -48,10 +72,10 @@ pub fn negative(tokens: &[Token], start: usize, end: u32) -> Result<ExprTree, Te
         (Fails (λ _. number_line tokens.now) 0 tokens.now end start) }
     ensures within { IfOk result (λ _. start + 2 ≤ length tokens.now) }
 {
-    let Some((number, _)) = number_at(tokens, start + 1) else {
+    let Some(number) = unsigned_at(tokens, start + 1) else {
         return Err(unexpected(tokens, end, start + 1));
     };
-    Ok(tree(tokens, start, start + 2, ExprNode::Number(0 - number)))
+    Ok(tree(tokens, start, start + 2, opposite(number)))
 }
 
 /// The name that stands there, if one does.

@@ -2,6 +2,7 @@
 #![tactic(auto)]
 
 mod build;
+mod expr;
 mod leaf;
 mod level;
 mod tokens;

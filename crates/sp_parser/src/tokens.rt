@@ -5,7 +5,7 @@ ghost use Rattle.sp_text.specs.declared.fault.TextFault.TheVariants as fault;
 ghost use Rattle.sp_text.specs.declared.fault.Rule.TheVariants as rule;
 ghost use Rattle.sp_text.specs.declared.fault.Quantity.TheVariants as quantity;
 ghost use Rattle.sp_grammar.specs.Codes.{code_at, kind_code, name_code, number_code, place_of, span_of, symbol_code, word_code};
-ghost use Rattle.sp_parser.specs.Contract.{expression_first};
+ghost use Rattle.sp_parser.specs.Contract.{close_code, expression_first};
 ghost use Rattle.sp_parser.specs.Marks.{mark_code};
 
 use sp_text::{
@@ -135,6 +135,13 @@ fn code(tokens: &[Token], place: usize) -> u8
         Some(token) => kind_number(&token.kind),
         None => 0,
     }
+}
+
+/// What closes FORALL, or EXISTS.
+pub fn closing(forall: bool) -> Mark
+    ensures { mark_code result ≡ close_code forall }
+{
+    if forall { END_FORALL } else { END_EXISTS }
 }
 
 /// Whether this token stands there.

@@ -39,6 +39,10 @@ not_true false h k = cc
 pub has-cons : (x n : ℕ) (xs : List ℕ) → IsTrue (has (x ∷ xs) n) → (x ≡ n) ⊎ IsTrue (has xs n)
 has-cons x n xs h = elim (eqb x n) as (λ b. eqb x n ≡ b → IsTrue (b || has xs n) → (x ≡ n) ⊎ IsTrue (has xs n)) [ true ↦ λ e k. inl (eqb-true x n e) | false ↦ λ e k. inr k ] refl h
 
+pub has-split : (xs ys : List ℕ) (n : ℕ) → IsTrue (has (xs ++ ys) n) → IsTrue (has xs n) ⊎ IsTrue (has ys n)
+has-split [] ys n h = inr h
+has-split (x ∷ xs) ys n h = elim (eqb x n) as (λ b. IsTrue (b || has (xs ++ ys) n) → IsTrue (b || has xs n) ⊎ IsTrue (has ys n)) [ true ↦ λ k. inl refl | false ↦ λ k. has-split xs ys n k ] h
+
 pub apart-has : (xs ys : List ℕ) (n : ℕ) → IsTrue (apart xs ys) → IsTrue (has xs n) → IsTrue (has ys n) → ⊥
 apart-has [] ys n a h k = cc
 apart-has (x ∷ xs) ys n a h k = elim (has-cons x n xs h) [

@@ -1,5 +1,6 @@
 -- What each step of the reader of expressions means.
 use Rattle.std.proofs.Common.{◌≡◌, ℕ, ℤ, suc, zero, max, ◌+◌, ◌<◌, ◌≤◌, ◌⊎◌, inl, inr, Bool, true, false, IsTrue, List, [], ◌∷◌, ◌++◌, Option, Some, None, slice_get, refl, sym, ap, subst, arith}
+use Rattle.sp_text.specs.declared.fault.Span.{Span}
 use Rattle.sp_text.specs.declared.token.Token.{Token}
 use Rattle.sp_text.specs.declared.token.TokenKind.TheVariants as kind
 use Rattle.sp_tree.specs.declared.names.Ident.{Ident}
@@ -9,16 +10,16 @@ use Rattle.sp_grammar.specs.Lang.{Lang, Prefix, nothing, lower, seq, either, mad
 use Rattle.sp_grammar.specs.Codes.{name_code, number_code, word_if, word_then, word_else, word_end_if, word_not, left_parenthesis, right_parenthesis, comma, colon, minus, quote, question, word_true, word_false, word_bottom, word_top}
 use Rattle.sp_grammar.proofs.Tokens.{name_there, number_there}
 use Rattle.sp_tree.specs.declared.expr.ExprNode.TheVariants as node
-use Rattle.sp_grammar.proofs.Laws.{Fine, apart-has, has-cons}
+use Rattle.sp_grammar.proofs.Laws.{Fine, apart-has, has-cons, has-split}
 use Rattle.sp_grammar.proofs.Chain.{Sub, sub_refl, sub_nothing, sub_prefix}
 use Rattle.sp_grammar.proofs.Lists.{Many, none, one_more, all_read}
 use Rattle.sp_grammar.proofs.Refusals.{refuses_made, refuses_item, refuses_first}
 use Rattle.sp_grammar.proofs.Places.{seq_reads, made_reads, token_reads, token_stops}
 use Rattle.sp_grammar.proofs.Rules.{Rule, goes, token_rule, fixed, lower_rule, room_rule}
-use Rattle.sp_grammar.proofs.Inside.{Inside, itself, as_same, under, of_made, of_lower, of_left, of_right, past, broken, past_token, no_token, blocked, last_token, no_last, omitted, given, given_refuses, room_reads, none_begins, closed_reads, at_any, other, only}
+use Rattle.sp_grammar.proofs.Inside.{Inside, itself, as_same, under, of_made, of_lower, of_left, of_right, past, broken, past_token, no_token, blocked, last_token, no_last, omitted, given, given_refuses, room_reads, none_begins, closed_reads, at_any, other, only, none_of}
 use Rattle.sp_parser.specs.Contract.{primary_first, expression_first, constant_first, join_code, quant_code, close_code}
 use Rattle.sp_parser.specs.Grammar.{at, ident, digits, tree, number_tree, named_tree, new_tree, paren_tree, if_tree, join_tree, quant_tree, not_tree, some_list, args_list, number_line, constant_line, formal_line, args, Tier, tier, primary, comparison, negation, expression}
-use Rattle.sp_parser.proofs.Laws.{primary_more, comparison_more, expression_more, fine, grows, exprs, expr_rule, token_at, ident_rule, fine_ident, number_rule, constants_rule, formal_rule, behind_expr, rest_rule, some_rule, list_rule, list_end, args_rule, given_args, named_rule, new_end, new_rule, paren_rule, else_end, then_end, if_rule, second_end, both_end, join_end, join_rule, body_end, bound_end, quant_end, quant_rule, forall_rule, exists_rule, primary_2, primary_3, primary_4, primary_5, primary_6, primary_7, primary_8, primary_9, primary_rule, not_rule}
+use Rattle.sp_parser.proofs.Laws.{primary_more, comparison_more, expression_more, fine, grows, exprs, expr_rule, token_at, ident_rule, fine_ident, number_code_at, number_rule, constants_rule, formal_rule, behind_expr, rest_rule, some_rule, list_rule, list_end, args_rule, given_args, named_rule, new_end, new_rule, paren_rule, else_end, then_end, if_rule, second_end, both_end, join_end, join_rule, body_end, bound_end, quant_end, quant_rule, forall_rule, exists_rule, primary_2, primary_3, primary_4, primary_5, primary_6, primary_7, primary_8, primary_9, primary_rule, not_rule}
 
 module _ (ts : List Token) where
   abbrev A : ℕ → ℕ
@@ -112,6 +113,9 @@ module _ (ts : List Token) where
 
     pub number_reads : (x j : ℕ) (v : ExprTree) → A i ≡ x → (IsTrue (has (primary_2 ts (exprs ts)).first x) → ⊥) → (number_line ts).whole v i j → Measures (primary ts) c v 1 i j
     number_reads x j v o k w = fixed_reads j v (closed_reads A false _ (number_line ts) ((number_rule ts).fine 0) b i j v w) (other A (primary_2 ts (exprs ts)).first x i o k)
+
+    pub number_leaf : (n m : ℤ) (r : Span) → slice_get ts i ≡ Some (record { kind = kind.Number n; span = r }) → m ≡ n → Measures (primary ts) c (tree ts (node.Number m) i (suc i)) 1 i (suc i)
+    number_leaf n m r f g = number_reads number_code (suc i) (tree ts (node.Number m) i (suc i)) (number_code_at ts n r i f) (λ k. cc) ((None, n), ap (λ (z : ℤ). tree ts (node.Number z) i (suc i)) g, (i, refl, ((r, f), refl)))
 
     pub number_refuses : (x : ℕ) → A i ≡ x → (IsTrue (has (primary_2 ts (exprs ts)).first x) → ⊥) → (r : Refusal) → Refuses (λ (_ : ℕ). number_line ts) 0 i r → Refuses (primary ts) c i r
     number_refuses x o k r S = (of_left A (primary ts) b i c i (λ w j. w) suc (number_rule ts) (primary_2 ts (exprs ts)) refl refl (other A (primary_2 ts (exprs ts)).first x i o k) in_1).refuses r (at_any (number_line ts) 0 b i r S)
@@ -493,3 +497,18 @@ module _ (ts : List Token) where
   pub one_more_arg : (b h2 h3 k0 k j n : ℕ) (v : ExprTree) (us : List ExprTree) → Rest us h2 k0 k → n ≡ max h2 h3 → Measures (Behind comma) b v h3 k j → Rest (us ++ v ∷ []) n k0 j
   one_more_arg b h2 h3 k0 k j n v us R f M = subst (λ z. Rest (us ++ v ∷ []) z k0 j) (sym f)
       (one_more A (comma ∷ []) (behind_expr ts (exprs ts) comma).more (Behind comma) fine_next grows_next refl us h2 k0 k R b h3 j v M)
+
+  -- no primary begins where none of its tokens stands
+  pub none_first : (k : ℕ) → (A k ≡ minus → ⊥) → (A k ≡ number_code → ⊥) → (IsTrue (has constant_first (A k)) → ⊥) → (A k ≡ name_code → ⊥) → (A k ≡ quote → ⊥) → (A k ≡ left_parenthesis → ⊥) → (A k ≡ word_if → ⊥)
+      → (A k ≡ join_code true → ⊥) → (A k ≡ join_code false → ⊥) → (A k ≡ quant_code true → ⊥) → (A k ≡ quant_code false → ⊥) → IsTrue (has primary_first (A k)) → ⊥
+  none_first k a d f g h l m n o p q x =
+      elim (has-cons minus (A k) (number_code ∷ constant_first ++ (name_code ∷ quote ∷ left_parenthesis ∷ word_if ∷ join_code true ∷ join_code false ∷ quant_code true ∷ quant_code false ∷ [])) x) [
+        | inl e ↦ a (sym e)
+        | inr y ↦ elim (has-cons number_code (A k) (constant_first ++ (name_code ∷ quote ∷ left_parenthesis ∷ word_if ∷ join_code true ∷ join_code false ∷ quant_code true ∷ quant_code false ∷ [])) y) [
+          | inl e ↦ d (sym e)
+          | inr z ↦ elim (has-split constant_first (name_code ∷ quote ∷ left_parenthesis ∷ word_if ∷ join_code true ∷ join_code false ∷ quant_code true ∷ quant_code false ∷ []) (A k) z) [
+            | inl e ↦ f e
+            | inr w ↦ none_of name_code (A k) (quote ∷ left_parenthesis ∷ word_if ∷ join_code true ∷ join_code false ∷ quant_code true ∷ quant_code false ∷ []) g (none_of quote (A k) (left_parenthesis ∷ word_if ∷ join_code true ∷ join_code false ∷ quant_code true ∷ quant_code false ∷ []) h (none_of left_parenthesis (A k) (word_if ∷ join_code true ∷ join_code false ∷ quant_code true ∷ quant_code false ∷ []) l (none_of word_if (A k) (join_code true ∷ join_code false ∷ quant_code true ∷ quant_code false ∷ []) m (none_of (join_code true) (A k) (join_code false ∷ quant_code true ∷ quant_code false ∷ []) n (none_of (join_code false) (A k) (quant_code true ∷ quant_code false ∷ []) o (none_of (quant_code true) (A k) (quant_code false ∷ []) p (none_of (quant_code false) (A k) [] q (λ u. let v : false ≡ true = u in cc)))))))) w
+          ]
+        ]
+      ]

@@ -114,7 +114,8 @@ fn parse_pair(
     ensures moves { IfOk result (λ x. start < x.next) }
     ensures within { IfOk result (λ x. x.next ≤ length tokens.now) }
 {
-    let left = parse_chain(alloc, tokens, start, end, budget, pair.operand())?;
+    let side = pair.operand();
+    let left = parse_chain(alloc, tokens, start, end, budget, side)?;
     let between = left.next;
     if !is_pair_operator(tokens, between, pair) {
         return Ok(left);
@@ -122,11 +123,12 @@ fn parse_pair(
     if left.height >= budget {
         return Err(too_high(tokens, end, between));
     }
-    let right = parse_chain(alloc, tokens, between + 1, end, budget - 1, pair.operand())?;
+    let right = parse_chain(alloc, tokens, between + 1, end, budget - 1, side)?;
+    let tree = binary(
+        alloc, tokens, between, left.tree, right.tree, start, right.next,
+    )?;
     Ok(Found {
-        tree: binary(
-            alloc, tokens, between, left.tree, right.tree, start, right.next,
-        )?,
+        tree,
         height: larger(left.height, right.height) + 1,
         next: right.next,
     })

@@ -5,4 +5,7 @@ mod build;
 mod expr;
 mod leaf;
 mod level;
+mod parse;
 mod tokens;
+
+pub use parse::parse_expr;

@@ -9,3 +9,6 @@ mod parse;
 mod tokens;
 
 pub use parse::parse_expr;
+
+#[cfg(test)]
+mod tests;

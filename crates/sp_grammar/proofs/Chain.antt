@@ -1,8 +1,8 @@
 -- A chain that leans to the left, read from the left.
-use Rattle.std.proofs.Common.{◌≡◌, ℕ, suc, zero, ◌+◌, ◌<◌, ◌≤◌, ◌⊎◌, inl, inr, Bool, true, false, IsTrue, List, [], ◌∷◌, ◌++◌, ◌-◌, add-zero, add-suc, refl, sym, ◌∙◌, ap, subst, arith}
-use Rattle.std.proofs.lemmas.Bool.{cases_order, cases_lt}
+use Rattle.std.proofs.Common.{◌≡◌, ℕ, suc, zero, ◌+◌, ◌<◌, ◌≤◌, inl, inr, Bool, true, false, IsTrue, List, [], ◌∷◌, ◌++◌, ◌-◌, add-zero, add-suc, refl, sym, ◌∙◌, ap, subst, arith}
+use Rattle.std.proofs.lemmas.Bool.{cases_order}
 use Rattle.sp_grammar.specs.Lang.{Lang, Prefix, nothing, lower, seq, either, made, all_whole, star, has, apart, binary}
-use Rattle.sp_grammar.proofs.Laws.{Fine, apart-has, le_span, fine_seq, fine_made, fine_star}
+use Rattle.sp_grammar.proofs.Laws.{Fine, fine_seq, fine_made, fine_star}
 
 -- one form is within another
 pub record Sub {V : Type 0} (f g : Lang V) : Type 0 where

@@ -1,5 +1,5 @@
 -- A chain with its laws as one value, and the steps of its reader.
-use Rattle.std.proofs.Common.{◌≡◌, ℕ, suc, zero, ◌+◌, ◌<◌, ◌≤◌, max, Bool, true, false, IsTrue, List, [], ◌++◌, refl, arith}
+use Rattle.std.proofs.Common.{ℕ, suc, zero, ◌≤◌, max, false, IsTrue, List, [], ◌++◌, arith}
 use Rattle.sp_grammar.specs.Lang.{Lang, nothing, has, apart, subset, binary, Measures, Exceeds, Refusal, stops, exceeds, Refuses}
 use Rattle.sp_grammar.proofs.Laws.{Fine}
 use Rattle.sp_grammar.proofs.Lists.{fine_more}

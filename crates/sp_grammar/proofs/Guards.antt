@@ -1,11 +1,9 @@
 -- The laws of the forms that only limit where another form may stand.
-use Rattle.std.proofs.Common.{◌≡◌, ℕ, suc, zero, ◌+◌, ◌<◌, ◌≤◌, ◌⊎◌, inl, inr, max, Bool, true, false, ◌&&◌, ◌||◌, eqb, IsTrue, List, [], ◌∷◌, ◌++◌, cond, if◌then◌else◌, refl, sym, ◌∙◌, ap, subst, arith}
-use Rattle.std.proofs.lemmas.Bool.{cases_order, cases_lt, eq-eqb}
-use Rattle.sp_grammar.specs.Lang.{Lang, Prefix, seq, star, has, apart, room, not_from, without, Measures, Refusal, place, Refuses}
-use Rattle.sp_grammar.proofs.Laws.{Fine, has-cons, fine_seq}
-use Rattle.sp_grammar.proofs.Chain.{Sub, sub_seq, Within, turn, run, operator}
-use Rattle.sp_grammar.proofs.Places.{Goes, seq_reads}
-use Rattle.sp_grammar.proofs.Refusals.{refuses_second, refuses_first}
+use Rattle.std.proofs.Common.{◌≡◌, ℕ, inl, inr, true, false, ◌||◌, eqb, IsTrue, List, [], ◌∷◌, if◌then◌else◌, refl, ap, subst, arith}
+use Rattle.std.proofs.lemmas.Bool.{eq-eqb}
+use Rattle.sp_grammar.specs.Lang.{Lang, has, room, not_from, without}
+use Rattle.sp_grammar.proofs.Laws.{Fine, has-cons}
+use Rattle.sp_grammar.proofs.Chain.{Sub, Within}
 
 pub fine_room : {V : Type 0} (at : ℕ → ℕ) (f : Lang V) → Fine at true [] [] (room f)
 fine_room at f = record {

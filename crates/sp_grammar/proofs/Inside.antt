@@ -1,13 +1,13 @@
 -- A reader inside a form: what it has read of the form, and what each token after it means for the whole of it.
-use Rattle.std.proofs.Common.{◌≡◌, ℕ, suc, zero, max, ◌+◌, ◌<◌, ◌≤◌, ◌⊎◌, inl, inr, Bool, true, false, IsTrue, List, [], ◌∷◌, ◌++◌, Option, Some, None, refl, sym, ap, subst, arith}
+use Rattle.std.proofs.Common.{◌≡◌, ℕ, suc, zero, max, ◌<◌, ◌≤◌, inl, inr, Bool, true, false, IsTrue, List, [], ◌∷◌, Some, None, refl, sym, subst, arith}
 use Rattle.std.proofs.lemmas.Bool.{cases_lt}
-use Rattle.sp_grammar.specs.Lang.{Lang, Prefix, nothing, lower, seq, either, made, star, optional, token, behind, room, has, apart, Measures, Stops, Exceeds, Refusal, stops, exceeds, place, Refuses}
+use Rattle.sp_grammar.specs.Lang.{Lang, Prefix, nothing, lower, seq, either, made, optional, token, room, has, apart, Measures, Stops, Exceeds, Refusal, stops, exceeds, Refuses}
 use Rattle.sp_grammar.proofs.Laws.{Fine, has-cons}
-use Rattle.sp_grammar.proofs.Chain.{Sub, sub_refl, sub_nothing, swap_either, sub_prefix}
-use Rattle.sp_grammar.proofs.Places.{seq_reads, token_reads, token_stops, made_reads, either_reads, neither, lower_reads}
-use Rattle.sp_grammar.proofs.Lists.{Many, none, one_more, all_read, optional_reads, optional_refuses, optional_exceeds_here, left_out}
-use Rattle.sp_grammar.proofs.Refusals.{ahead_prefix, refuses_ahead, refuses_made, refuses_second, refuses_first, refuses_lower, refuses_either, refuses_item}
-use Rattle.sp_grammar.proofs.Rules.{Rule, goes, token_rule, seq_rule, made_rule, either_rule, optional_rule, star_rule, behind_rule, room_rule, some_fine}
+use Rattle.sp_grammar.proofs.Chain.{Sub, sub_refl, swap_either, sub_prefix}
+use Rattle.sp_grammar.proofs.Places.{seq_reads, token_reads, token_stops, made_reads, either_reads, lower_reads}
+use Rattle.sp_grammar.proofs.Lists.{none, optional_reads, optional_refuses, optional_exceeds_here, left_out}
+use Rattle.sp_grammar.proofs.Refusals.{refuses_ahead, refuses_made, refuses_second, refuses_first, refuses_lower, refuses_either}
+use Rattle.sp_grammar.proofs.Rules.{Rule, goes, token_rule, some_fine}
 
 -- where the code is known, it isn't another one
 pub other : (at : ℕ → ℕ) (xs : List ℕ) (c i : ℕ) → at i ≡ c → (IsTrue (has xs c) → ⊥) → IsTrue (has xs (at i)) → ⊥

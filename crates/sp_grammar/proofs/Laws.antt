@@ -1,7 +1,7 @@
 -- What each way to put forms together keeps, where one token ahead decides.
-use Rattle.std.proofs.Common.{◌≡◌, ℕ, suc, ◌+◌, ◌<◌, ◌≤◌, ◌⊎◌, inl, inr, Bool, true, false, not, ◌&&◌, ◌||◌, eqb, IsTrue, List, [], ◌∷◌, ◌++◌, Option, Some, None, cond, refl, sym, ◌∙◌, ap, subst, arith}
+use Rattle.std.proofs.Common.{◌≡◌, ℕ, ◌<◌, ◌≤◌, ◌⊎◌, inl, inr, Bool, true, false, not, ◌&&◌, ◌||◌, eqb, IsTrue, List, [], ◌∷◌, ◌++◌, cond, refl, sym, ◌∙◌, ap, subst, arith}
 use Rattle.std.proofs.lemmas.Bool.{cases_order, cases_lt, eqb-true, eq-eqb}
-use Rattle.sp_grammar.specs.Lang.{Lang, Prefix, nothing, seq, either, made, all_whole, star, maybe_whole, optional, token, has, apart}
+use Rattle.sp_grammar.specs.Lang.{Lang, seq, either, made, all_whole, star, token, has, apart}
 
 pub record Fine {V : Type 0} (at : ℕ → ℕ) (null : Bool) (first more : List ℕ) (L : Lang V) : Type 0 where
   pub span : (v : V) (i j : ℕ) → L.whole v i j → (i < j) ⊎ (IsTrue null × (i ≡ j))

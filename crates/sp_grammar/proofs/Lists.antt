@@ -1,9 +1,9 @@
 -- Any number of a form, and a form that may be left out.
-use Rattle.std.proofs.Common.{◌≡◌, ℕ, suc, zero, ◌+◌, ◌-◌, ◌<◌, ◌≤◌, ◌⊎◌, inl, inr, max, Bool, true, false, IsTrue, List, [], ◌∷◌, ◌++◌, Option, Some, None, refl, sym, ◌∙◌, ap, subst, arith}
+use Rattle.std.proofs.Common.{◌≡◌, ℕ, suc, ◌+◌, ◌<◌, ◌≤◌, ◌⊎◌, inl, inr, max, Bool, true, false, IsTrue, List, [], ◌∷◌, ◌++◌, Option, Some, None, refl, sym, ap, subst, arith}
 use Rattle.std.proofs.lemmas.Bool.{cases_order, cases_lt}
-use Rattle.sp_grammar.specs.Lang.{Lang, Prefix, nothing, all_whole, star, maybe_whole, optional, has, apart, subset, Measures, Stops, Exceeds, Refusal, stops, exceeds, place, Refuses}
+use Rattle.sp_grammar.specs.Lang.{Lang, Prefix, all_whole, star, maybe_whole, optional, has, apart, subset, Measures, Stops, Exceeds, Refusal, stops, exceeds, place, Refuses}
 use Rattle.sp_grammar.proofs.Laws.{Fine, apart-has, le_span, has-cons, has-append_left, has-append_right, and_left, and_right}
-use Rattle.sp_grammar.proofs.Chain.{Sub, sub_refl, sub_prefix, grow_to}
+use Rattle.sp_grammar.proofs.Chain.{Sub, sub_prefix, grow_to}
 
 sub_all : {V : Type 0} (f g : Lang V) → Sub f g → (vs : List V) (i j : ℕ) → all_whole f vs i j → all_whole g vs i j
 sub_all f g s [] i j e = e

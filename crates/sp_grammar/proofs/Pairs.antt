@@ -1,7 +1,7 @@
 -- A form with one operator at most: its laws, and the steps of its reader.
-use Rattle.std.proofs.Common.{◌≡◌, ℕ, suc, zero, ◌+◌, ◌-◌, ◌<◌, ◌≤◌, ◌⊎◌, inl, inr, max, Bool, true, false, IsTrue, List, [], ◌∷◌, ◌++◌, refl, sym, ◌∙◌, ap, subst, arith}
-use Rattle.std.proofs.lemmas.Bool.{cases_order, cases_lt}
-use Rattle.sp_grammar.specs.Lang.{Lang, Prefix, nothing, has, apart, subset, binary, Measures, Stops, Exceeds, Refusal, stops, exceeds, place, Refuses}
+use Rattle.std.proofs.Common.{◌≡◌, ℕ, suc, zero, ◌+◌, ◌<◌, ◌≤◌, ◌⊎◌, inl, inr, max, false, IsTrue, List, [], ◌++◌, refl, subst, arith}
+use Rattle.std.proofs.lemmas.Bool.{cases_lt}
+use Rattle.sp_grammar.specs.Lang.{Lang, Prefix, nothing, has, apart, subset, binary, Measures, Stops, Exceeds, Refusal, stops, exceeds, Refuses}
 use Rattle.sp_grammar.proofs.Laws.{Fine, apart-has}
 use Rattle.sp_grammar.proofs.Lists.{fine_more}
 use Rattle.sp_grammar.proofs.Guards.{within_sub}

@@ -1,9 +1,9 @@
 -- What is read, where it stops, and where it exceeds the height, for a sequence, a choice, a made value and a form that adds to the height.
-use Rattle.std.proofs.Common.{◌≡◌, ℕ, suc, zero, ◌+◌, ◌-◌, ◌<◌, ◌≤◌, ◌⊎◌, inl, inr, max, Bool, true, false, IsTrue, List, [], ◌∷◌, ◌++◌, cond, refl, sym, ◌∙◌, ap, subst, arith}
+use Rattle.std.proofs.Common.{◌≡◌, ℕ, suc, zero, ◌+◌, ◌<◌, ◌≤◌, ◌⊎◌, inl, inr, max, Bool, true, false, IsTrue, List, refl, subst, arith}
 use Rattle.std.proofs.lemmas.Bool.{cases_order, cases_lt}
-use Rattle.sp_grammar.specs.Lang.{Lang, Prefix, nothing, seq, either, made, token, has, apart, Reads, Measures, Stops, Exceeds}
+use Rattle.sp_grammar.specs.Lang.{Lang, Prefix, nothing, seq, either, made, token, has, apart, Measures, Stops, Exceeds}
 use Rattle.sp_grammar.proofs.Laws.{Fine, apart-has, le_span}
-use Rattle.sp_grammar.proofs.Chain.{Sub, sub_refl, sub_prefix, grow_to}
+use Rattle.sp_grammar.proofs.Chain.{Sub, sub_prefix, grow_to}
 
 -- a form with a budget, in which one token ahead decides
 pub record Goes {V : Type 0} (at : ℕ → ℕ) (null : Bool) (first more : List ℕ) (F : ℕ → Lang V) : Type 0 where

@@ -1,6 +1,6 @@
 -- The steps of Places and Lists, for both refusals at once.
-use Rattle.std.proofs.Common.{◌≡◌, ℕ, suc, zero, ◌+◌, ◌-◌, ◌<◌, ◌≤◌, ◌⊎◌, inl, inr, max, Bool, true, false, IsTrue, List, [], ◌∷◌, ◌++◌, cond, refl, sym, ◌∙◌, ap, subst, arith}
-use Rattle.sp_grammar.specs.Lang.{Lang, Prefix, nothing, seq, either, made, star, has, apart, Measures, Stops, Exceeds, Refusal, stops, exceeds, place, Refuses}
+use Rattle.std.proofs.Common.{ℕ, suc, zero, ◌<◌, ◌≤◌, inl, inr, Bool, false, IsTrue, List, arith}
+use Rattle.sp_grammar.specs.Lang.{Lang, Prefix, nothing, seq, either, made, star, has, apart, Measures, Refusal, stops, exceeds, place, Refuses}
 use Rattle.sp_grammar.proofs.Laws.{Fine, le_span}
 use Rattle.sp_grammar.proofs.Chain.{Sub}
 use Rattle.sp_grammar.proofs.Places.{Goes, seq_second_stops, seq_second_exceeds, seq_first_stops, seq_first_exceeds, made_stops, made_exceeds, either_stops, either_exceeds, lower_stops, lower_exceeds}

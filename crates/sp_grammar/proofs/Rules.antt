@@ -1,6 +1,6 @@
 -- A form with a budget, its sets and its laws as one value, for each way to put forms together.
-use Rattle.std.proofs.Common.{◌≡◌, ℕ, suc, ◌+◌, ◌⊎◌, inl, inr, Bool, true, false, ◌&&◌, IsTrue, List, [], ◌∷◌, ◌++◌, Option, cond, refl, sym, subst}
-use Rattle.sp_grammar.specs.Lang.{Lang, seq, either, made, star, optional, token, behind, lower, room, has, apart, subset}
+use Rattle.std.proofs.Common.{◌≡◌, ℕ, suc, Bool, true, false, ◌&&◌, IsTrue, List, [], ◌∷◌, ◌++◌, Option, cond, refl, subst}
+use Rattle.sp_grammar.specs.Lang.{Lang, seq, either, made, star, optional, token, lower, room, apart, subset}
 use Rattle.sp_grammar.proofs.Laws.{Fine, fine_seq, fine_either, fine_made, fine_token, fine_star}
 use Rattle.sp_grammar.proofs.Chain.{Sub, sub_refl, sub_seq, sub_either, sub_made, fine_lower, lower_grows}
 use Rattle.sp_grammar.proofs.Lists.{sub_star, sub_optional, fine_optional, fine_more}

@@ -1,9 +1,9 @@
 -- The steps of a reader of a chain: what it has read, and what each token after it means.
-use Rattle.std.proofs.Common.{◌≡◌, ℕ, suc, zero, ◌+◌, ◌-◌, ◌<◌, ◌≤◌, ◌⊎◌, inl, inr, max, Bool, true, false, IsTrue, List, [], ◌∷◌, ◌++◌, refl, sym, ◌∙◌, ap, subst, arith}
+use Rattle.std.proofs.Common.{◌≡◌, ℕ, suc, zero, ◌+◌, ◌<◌, ◌≤◌, ◌⊎◌, inl, inr, max, true, false, IsTrue, List, [], ◌∷◌, refl, sym, ◌∙◌, ap, subst, arith}
 use Rattle.std.proofs.lemmas.Bool.{cases_order, cases_lt}
-use Rattle.sp_grammar.specs.Lang.{Lang, Prefix, nothing, seq, made, all_whole, star, has, apart, binary, Reads, Measures, Stops, Exceeds}
-use Rattle.sp_grammar.proofs.Laws.{Fine, apart-has, le_span}
-use Rattle.sp_grammar.proofs.Chain.{Sub, sub_refl, sub_prefix, Ways, grow_to, Within, within_nothing, within_binary, turn, Turn, run, operator}
+use Rattle.sp_grammar.specs.Lang.{Lang, Prefix, nothing, all_whole, star, has, apart, binary, Measures, Stops, Exceeds}
+use Rattle.sp_grammar.proofs.Laws.{apart-has}
+use Rattle.sp_grammar.proofs.Chain.{Sub, sub_prefix, Ways, grow_to, Within, within_binary, turn, Turn}
 
 module _ {V : Type 0} (at : ℕ → ℕ) (first more : List ℕ) (F : ℕ → Lang V) (W : Ways at first more F) where
   up : (b c : ℕ) → b ≤ c → Sub (F b) (F c)

@@ -1,5 +1,5 @@
 -- What the code of a place says of the token there.
-use Rattle.std.proofs.Common.{◌≡◌, ℕ, ℤ, ◌<◌, ◌⊎◌, inl, inr, List, Option, Some, None, slice_get, length, lit<, refl, sym, ◌∙◌, ap, arith}
+use Rattle.std.proofs.Common.{◌≡◌, ℕ, ℤ, ◌<◌, inl, inr, List, Option, Some, None, slice_get, length, lit<, refl, arith}
 use Rattle.std.proofs.lemmas.Option.{slice_get_cases}
 use Rattle.sp_text.specs.declared.fault.Span.{Span}
 use Rattle.sp_text.specs.declared.token.Token.{Token}

@@ -1,6 +1,6 @@
 -- A number for each kind of token, so that the forms of a grammar can tell tokens apart by computing, with a name for each;
 -- and the tokens of a text by their places. For every definition and every reader of a list of tokens.
-use Rattle.std.specs.Prelude.{◌≡◌, ℕ, ◌+◌, ◌-◌, List, Option, Some, None, slice_get}
+use Rattle.std.specs.Prelude.{ℕ, ◌-◌, List, Option, Some, None, slice_get}
 use Rattle.sp_text.specs.declared.fault.Span.{Span}
 use Rattle.sp_text.specs.declared.token.Token.{Token}
 use Rattle.sp_text.specs.declared.token.TokenKind.{TokenKind}

@@ -1,8 +1,10 @@
--- Forms of a grammar, over the tokens of one text. A place is the number of a token.
-use Rattle.std.specs.Prelude.{if◌then◌else◌, ◌≡◌, ℕ, zero, suc, ◌+◌, ◌<◌, ◌≤◌, ◌⊎◌, Bool, true, false, not, ◌&&◌, ◌||◌, eqb, IsTrue, List, [], ◌∷◌, ◌++◌, Option, Some, None}
+-- The forms that a grammar is written in, over the tokens of one text, and what a reader may find of them within a budget of
+-- height. For the grammars of all texts and the contracts of their readers. A place is the number of a token.
+use Rattle.std.specs.Prelude.{if◌then◌else◌, ◌≡◌, ℕ, zero, suc, ◌<◌, ◌≤◌, ◌⊎◌, Bool, true, false, not, ◌&&◌, ◌||◌, eqb, IsTrue, List, [], ◌∷◌, Option, Some, None}
 
--- Which tokens, from one place to another, are whole and stand for a value, and which end within the form:
--- they are whole parts of it, with the front of the next part.
+-- Which tokens, from one place to another, are whole and stand for a value, and which end within the form: they are whole
+-- parts of it, followed by the front of its next part. A token's own front is the empty list alone: a whole token is a
+-- whole part, behind which the front of the next part has to be possible, within its budget.
 pub record Lang (V : Type 0) : Type 1 where
   pub whole : V → ℕ → ℕ → Type 0
   pub part : ℕ → ℕ → Type 0

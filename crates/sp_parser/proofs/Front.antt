@@ -1,5 +1,5 @@
 -- The steps of the reader say which token is the first that doesn't go on.
-use Rattle.std.proofs.Common.{◌≡◌, ℕ, suc, ◌<◌, ◌≤◌, ◌⊎◌, inl, inr, false, true, IsTrue, List, refl, subst, arith}
+use Rattle.std.proofs.Common.{◌≡◌, ℕ, suc, ◌<◌, ◌≤◌, inl, inr, IsTrue, List, refl, subst, arith}
 use Rattle.std.proofs.lemmas.Bool.{cases_lt}
 use Rattle.sp_text.specs.declared.token.Token.{Token}
 use Rattle.sp_text.specs.declared.fault.TextFault.{TextFault}
@@ -11,7 +11,7 @@ use Rattle.sp_grammar.specs.Lang.{Lang, Prefix, has, Measures}
 use Rattle.sp_grammar.specs.Codes.{place_of}
 use Rattle.sp_grammar.proofs.Chain.{grow_to}
 use Rattle.sp_parser.specs.Contract.{Fails, expression_first}
-use Rattle.sp_parser.specs.Front.{IsFront, IsFirstOff, IsNoneOf, Refused}
+use Rattle.sp_parser.specs.Front.{IsFront, IsFirstOff, Refused}
 use Rattle.sp_parser.specs.Grammar.{at, expression}
 use Rattle.sp_parser.proofs.Laws.{fine, grows}
 use Rattle.sp_parser.proofs.Steps.{empty_expr, first_of}

@@ -1,5 +1,5 @@
 -- In each line of the grammar one token ahead decides, and a larger budget reads no less.
-use Rattle.std.proofs.Common.{◌≡◌, ℕ, ℤ, suc, zero, ◌+◌, ◌<◌, ◌≤◌, ◌⊎◌, inl, inr, Bool, true, false, IsTrue, List, [], ◌∷◌, ◌++◌, Option, Some, None, slice_get, refl, sym, ◌∙◌, ap, subst, arith}
+use Rattle.std.proofs.Common.{◌≡◌, ℕ, ℤ, suc, zero, inl, Bool, true, false, IsTrue, List, [], ◌∷◌, ◌++◌, Option, Some, slice_get, refl, sym, ◌∙◌, ap, arith}
 use Rattle.sp_text.specs.declared.fault.Span.{Span}
 use Rattle.sp_text.specs.declared.token.Token.{Token}
 use Rattle.sp_text.specs.declared.token.TokenKind.TheVariants as kind
@@ -9,15 +9,15 @@ use Rattle.sp_tree.specs.declared.names.FormalTree.{FormalTree}
 use Rattle.sp_tree.specs.declared.expr.ExprTree.{ExprTree}
 use Rattle.sp_tree.specs.declared.expr.ExprNode.{ExprNode}
 use Rattle.sp_tree.specs.declared.expr.ExprNode.TheVariants as node
-use Rattle.sp_grammar.specs.Lang.{Lang, Prefix, nothing, seq, either, made, star, optional, token, behind, room, has, apart, binary}
+use Rattle.sp_grammar.specs.Lang.{Lang, either, made, behind, apart, binary}
 use Rattle.sp_grammar.specs.Codes.{code_at, name_code, number_code, word_boolean, word_integer, word_level, word_if, word_then, word_else, word_end_if, word_forall, word_end_forall, word_exists, word_end_exists, word_not, word_lub, word_glb, word_true, word_false, word_bottom, word_top, left_parenthesis, right_parenthesis, comma, colon, minus, quote, question}
 use Rattle.sp_grammar.proofs.Laws.{Fine}
 use Rattle.sp_grammar.proofs.Lists.{sub_star, sub_optional, fine_more}
-use Rattle.sp_grammar.proofs.Chain.{Sub, sub_refl, sub_seq, sub_either, sub_made, sub_binary, sub_nothing, fine_nothing, fine_binary, within_chain, Ways}
+use Rattle.sp_grammar.proofs.Chain.{Sub, sub_refl, sub_seq, sub_either, sub_made, sub_binary, sub_nothing, fine_nothing}
 use Rattle.sp_grammar.proofs.Chains.{fine_chain}
 use Rattle.sp_grammar.proofs.Pairs.{fine_pair}
 use Rattle.sp_grammar.proofs.Rules.{Rule, fixed, token_rule, seq_rule, made_rule, either_rule, optional_rule, star_rule, behind_rule, room_rule, sub_room}
-use Rattle.sp_parser.specs.Grammar.{at, tree, ident, digits, number_tree, constant_tree, boolean_type, integer_type, level_type, named_type, formal_tree, some_list, args_list, named_tree, new_tree, paren_tree, if_tree, join_tree, quant_tree, not_tree, binary_tree, number_line, constant, constant_line, type_line, formal_line, some_args, args, named_line, new_line, paren_line, if_line, join_line, quant_line, primary_line, product_line, sum_line, comparison_line, negation_line, conjunction_line, disjunction_line, implication_line, expression_line, iff_ops, implies_ops, or_ops, and_ops, comparison_ops, sum_ops, product_ops, Tier, tier, primary, product, sum, comparison, negation, conjunction, disjunction, implication, expression}
+use Rattle.sp_parser.specs.Grammar.{at, ident, digits, number_tree, constant_tree, boolean_type, integer_type, level_type, named_type, formal_tree, some_list, args_list, named_tree, new_tree, paren_tree, if_tree, join_tree, quant_tree, not_tree, binary_tree, args, if_line, join_line, quant_line, primary_line, iff_ops, implies_ops, or_ops, and_ops, comparison_ops, sum_ops, product_ops, Tier, tier, primary, product, sum, comparison, negation, conjunction, disjunction, implication, expression}
 use Rattle.sp_parser.specs.Contract.{primary_first, expression_first}
 
 -- the tokens that go on behind each form

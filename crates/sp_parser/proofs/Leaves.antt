@@ -1,5 +1,5 @@
 -- What is read and refused of the forms without expressions in them.
-use Rattle.std.proofs.Common.{◌≡◌, ℕ, ℤ, suc, ◌+◌, ◌<◌, ◌≤◌, inl, inr, false, IsTrue, List, [], ◌∷◌, Option, Some, None, slice_get, refl, sym, ap, subst, arith}
+use Rattle.std.proofs.Common.{◌≡◌, ℕ, ℤ, suc, inl, false, IsTrue, List, Some, slice_get, refl, sym, ap, subst}
 use Rattle.sp_text.specs.declared.fault.Span.{Span}
 use Rattle.sp_text.specs.declared.token.Token.{Token}
 use Rattle.sp_text.specs.declared.token.TokenKind.TheVariants as kind
@@ -7,15 +7,14 @@ use Rattle.sp_text.specs.declared.fault.TextFault.{TextFault}
 use Rattle.sp_text.specs.declared.fault.TextFault.TheVariants as fault
 use Rattle.sp_tree.specs.declared.names.Ident.{Ident}
 use Rattle.sp_tree.specs.declared.names.TypeTree.{TypeTree}
-use Rattle.sp_tree.specs.declared.expr.ExprTree.{ExprTree}
 use Rattle.sp_tree.specs.declared.expr.ExprNode.TheVariants as node
-use Rattle.sp_grammar.specs.Lang.{Lang, Prefix, seq, either, made, optional, token, has, Measures, Stops, Exceeds, Refusal, stops, exceeds, Refuses}
+use Rattle.sp_grammar.specs.Lang.{Lang, seq, optional, token, has, Measures, Stops, Refusal, stops, exceeds, Refuses}
 use Rattle.sp_grammar.specs.Codes.{minus, name_code, number_code}
-use Rattle.sp_grammar.proofs.Inside.{Inside, itself, of_made, past, broken, given, only, none_begins, at_any, closed_reads}
+use Rattle.sp_grammar.proofs.Inside.{itself, of_made, past, broken, given, only, none_begins, closed_reads}
 use Rattle.sp_grammar.proofs.Places.{token_reads}
 use Rattle.sp_parser.specs.Contract.{Fails, type_first}
 use Rattle.sp_parser.specs.Grammar.{at, tree, ident, digits, signed, number_tree, number_line, formal_tree, formal_line, type_line}
-use Rattle.sp_parser.proofs.Laws.{fine_ident, fine_digits, token_at, ident_rule, digits_rule, sign_rule, number_rule, type_rule, formal_rule}
+use Rattle.sp_parser.proofs.Laws.{token_at, ident_rule, digits_rule, sign_rule, type_rule}
 
 -- a refusal of a part as one of the whole
 pub fails_by : {V W : Type 0} (F : ℕ → Lang V) (G : ℕ → Lang W) (b c : ℕ) (ts : List Token) (end i j : ℕ) (e : TextFault)

@@ -1,8 +1,8 @@
 -- The chains and pairs of the grammar, with their laws.
-use Rattle.std.proofs.Common.{◌≡◌, ℕ, suc, zero, inl, inr, IsTrue, List, [], ◌∷◌, refl}
+use Rattle.std.proofs.Common.{ℕ, suc, zero, inl, IsTrue, List, refl}
 use Rattle.sp_text.specs.declared.token.Token.{Token}
 use Rattle.sp_tree.specs.declared.expr.ExprTree.{ExprTree}
-use Rattle.sp_grammar.specs.Lang.{Lang, nothing, apart, binary}
+use Rattle.sp_grammar.specs.Lang.{nothing, apart, binary}
 use Rattle.sp_grammar.proofs.Chain.{Sub, sub_refl, Ways}
 use Rattle.sp_grammar.proofs.Chains.{Chain}
 use Rattle.sp_grammar.proofs.Pairs.{Pair}
@@ -13,7 +13,7 @@ use Rattle.sp_parser.specs.declared.level.Chain.{Chain as Level}
 use Rattle.sp_parser.specs.declared.level.Chain.TheVariants as chain
 use Rattle.sp_parser.specs.declared.level.Pair.{Pair as Two}
 use Rattle.sp_parser.specs.declared.level.Pair.TheVariants as pair
-use Rattle.sp_parser.proofs.Laws.{fine, grows, primary_more, product_more, sum_more, comparison_more, conjunction_more, disjunction_more, implication_more, expression_more}
+use Rattle.sp_parser.proofs.Laws.{fine, grows, primary_more, product_more, sum_more, comparison_more, conjunction_more, disjunction_more, implication_more}
 
 abbrev pub chain_first : Level → List ℕ
 chain_first chain.Iff = expression_first

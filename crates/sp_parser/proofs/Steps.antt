@@ -1,25 +1,24 @@
 -- What each step of the reader of expressions means.
-use Rattle.std.proofs.Common.{◌≡◌, ℕ, ℤ, suc, zero, max, ◌+◌, ◌<◌, ◌≤◌, ◌⊎◌, inl, inr, Bool, true, false, IsTrue, List, [], ◌∷◌, ◌++◌, Option, Some, None, slice_get, refl, sym, ap, subst, arith}
+use Rattle.std.proofs.Common.{◌≡◌, ℕ, ℤ, suc, zero, max, ◌<◌, ◌≤◌, inl, inr, Bool, true, false, IsTrue, List, [], ◌∷◌, ◌++◌, Some, None, slice_get, refl, sym, ap, subst, arith}
 use Rattle.sp_text.specs.declared.fault.Span.{Span}
 use Rattle.sp_text.specs.declared.token.Token.{Token}
 use Rattle.sp_text.specs.declared.token.TokenKind.TheVariants as kind
 use Rattle.sp_tree.specs.declared.names.Ident.{Ident}
 use Rattle.sp_tree.specs.declared.names.FormalTree.{FormalTree}
 use Rattle.sp_tree.specs.declared.expr.ExprTree.{ExprTree}
-use Rattle.sp_grammar.specs.Lang.{Lang, Prefix, nothing, lower, seq, either, made, star, optional, token, behind, room, has, apart, Measures, Stops, Exceeds, Refusal, stops, exceeds, place, Refuses}
+use Rattle.sp_grammar.specs.Lang.{Lang, Prefix, seq, either, made, token, behind, room, has, apart, Measures, Stops, Exceeds, Refusal, stops, exceeds, place, Refuses}
 use Rattle.sp_grammar.specs.Codes.{name_code, number_code, word_if, word_then, word_else, word_end_if, word_not, left_parenthesis, right_parenthesis, comma, colon, minus, quote, question, word_true, word_false, word_bottom, word_top}
 use Rattle.sp_grammar.proofs.Tokens.{name_there, number_there}
 use Rattle.sp_tree.specs.declared.expr.ExprNode.TheVariants as node
 use Rattle.sp_grammar.proofs.Laws.{Fine, apart-has, has-cons, has-split}
 use Rattle.sp_grammar.proofs.Chain.{Sub, sub_refl, sub_nothing, sub_prefix}
 use Rattle.sp_grammar.proofs.Lists.{Many, none, one_more, all_read}
-use Rattle.sp_grammar.proofs.Refusals.{refuses_made, refuses_item, refuses_first}
-use Rattle.sp_grammar.proofs.Places.{seq_reads, made_reads, token_reads, token_stops}
-use Rattle.sp_grammar.proofs.Rules.{Rule, goes, token_rule, fixed, lower_rule, room_rule}
-use Rattle.sp_grammar.proofs.Inside.{Inside, itself, as_same, under, of_made, of_lower, of_left, of_right, past, broken, past_token, no_token, blocked, last_token, no_last, omitted, given, given_refuses, room_reads, none_begins, closed_reads, at_any, other, only, none_of}
+use Rattle.sp_grammar.proofs.Refusals.{refuses_made, refuses_item}
+use Rattle.sp_grammar.proofs.Rules.{Rule, lower_rule, room_rule}
+use Rattle.sp_grammar.proofs.Inside.{Inside, itself, as_same, under, of_made, of_lower, of_left, of_right, past, broken, past_token, blocked, last_token, no_last, omitted, given, given_refuses, room_reads, none_begins, closed_reads, at_any, other, only, none_of}
 use Rattle.sp_parser.specs.Contract.{primary_first, expression_first, constant_first, join_code, quant_code, close_code}
-use Rattle.sp_parser.specs.Grammar.{at, ident, digits, tree, number_tree, named_tree, new_tree, paren_tree, if_tree, join_tree, quant_tree, not_tree, some_list, args_list, number_line, constant_line, formal_line, args, Tier, tier, primary, comparison, negation, expression}
-use Rattle.sp_parser.proofs.Laws.{primary_more, comparison_more, expression_more, fine, grows, exprs, expr_rule, token_at, ident_rule, fine_ident, number_code_at, number_rule, constants_rule, formal_rule, behind_expr, rest_rule, some_rule, list_rule, list_end, args_rule, given_args, named_rule, new_end, new_rule, paren_rule, else_end, then_end, if_rule, second_end, both_end, join_end, join_rule, body_end, bound_end, quant_end, quant_rule, forall_rule, exists_rule, primary_2, primary_3, primary_4, primary_5, primary_6, primary_7, primary_8, primary_9, primary_rule, not_rule}
+use Rattle.sp_parser.specs.Grammar.{at, ident, tree, named_tree, new_tree, paren_tree, if_tree, join_tree, quant_tree, not_tree, some_list, args_list, number_line, constant_line, formal_line, args, primary, comparison, negation, expression}
+use Rattle.sp_parser.proofs.Laws.{comparison_more, expression_more, fine, grows, exprs, expr_rule, token_at, ident_rule, fine_ident, number_code_at, number_rule, constants_rule, formal_rule, behind_expr, rest_rule, some_rule, list_rule, list_end, args_rule, given_args, named_rule, new_end, new_rule, paren_rule, else_end, then_end, if_rule, second_end, both_end, join_end, join_rule, body_end, bound_end, quant_end, quant_rule, forall_rule, exists_rule, primary_2, primary_3, primary_4, primary_5, primary_6, primary_7, primary_8, primary_9, primary_rule, not_rule}
 
 module _ (ts : List Token) where
   abbrev A : ℕ → ℕ

@@ -1,10 +1,10 @@
 -- Each return of the readers is one step of the lines that they read.
-use Rattle.std.proofs.Common.{rules, SFits, w64, ◌≡◌, ℕ, suc, ◌+◌, ◌-◌, ◌<◌, ◌≤◌, max, false, true, IsTrue, IfSome, IfNone, List, [], ◌∷◌, ◌++◌, Option, Some, None, slice_get, ap, sym, ◌∙◌, refl, subst, arith}
+use Rattle.std.proofs.Common.{rules, SFits, w64, ◌≡◌, ℕ, suc, ◌+◌, ◌-◌, ◌≤◌, max, false, true, IfSome, IfNone, [], ◌∷◌, ◌++◌, Option, Some, slice_get, ap, sym, ◌∙◌, refl, subst, arith}
 use Rattle.std.proofs.lemmas.Int.{ints}
 use Rattle.std.proofs.lemmas.Result.{err_from_is_err_and, MatchResult-weaker}
 use Rattle.sp_text.specs.declared.token.TokenKind.TheVariants as kind
 use Rattle.sp_tree.specs.declared.names.Ident.{Ident}
-use Rattle.sp_grammar.specs.Lang.{has, Measures, Refuses}
+use Rattle.sp_grammar.specs.Lang.{Measures, Refuses}
 use Rattle.sp_grammar.specs.Codes.{name_code, left_parenthesis, comma, colon, minus, word_if, word_then, word_else}
 use Rattle.sp_grammar.proofs.Chains.{Along, chain_begin, chain_first_refuses, chain_stop, chain_step, chain_high, chain_right_refuses}
 use Rattle.sp_grammar.proofs.Pairs.{pair_first_refuses, pair_stop, pair_high, pair_right_refuses, pair_reads}

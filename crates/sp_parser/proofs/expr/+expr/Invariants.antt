@@ -1,4 +1,4 @@
-use Rattle.std.proofs.Common.{◌≡◌, ℕ, List, ◌∷◌, ◌+◌, ◌-◌, ◌*◌, ◌<◌, ◌≤◌, length}
+use Rattle.std.proofs.Common.{◌≡◌, List, ◌∷◌, ◌+◌, ◌-◌, ◌*◌, ◌<◌, ◌≤◌, length}
 use Rattle.sp_tree.specs.declared.expr.ExprTree.{ExprTree}
 use Rattle.sp_grammar.proofs.Chains.{Along}
 use Rattle.sp_parser.specs.Grammar.{at}

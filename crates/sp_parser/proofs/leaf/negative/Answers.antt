@@ -1,4 +1,4 @@
-use Rattle.std.proofs.Common.{rules, SFits, ◌≡◌, ◌+◌, suc, w64, refl, arith}
+use Rattle.std.proofs.Common.{rules, SFits, ◌+◌, w64, refl, arith}
 use Rattle.std.proofs.lemmas.Int.{ints}
 use Rattle.sp_parser.proofs.Leaves.{no_digits, negative_whole}
 use Rattle.sp_parser.proofs.leaf.negative.Goals as goal

@@ -1,8 +1,5 @@
-use Rattle.std.proofs.Common.{◌≡◌, false, true, ℕ, sym, ◌∙◌, subst, arith}
+use Rattle.std.proofs.Common.{◌≡◌, false, true, sym, ◌∙◌, arith}
 use Rattle.std.proofs.lemmas.Result.{err_from_is_err_and}
-use Rattle.sp_text.specs.declared.fault.TextFault.{TextFault}
-use Rattle.sp_parser.specs.Front.{Refused}
-use Rattle.sp_parser.specs.Grammar.{expression}
 use Rattle.sp_parser.proofs.Front.{refused, refused_high, refused_off, answered, only_fault, only_tree}
 use Rattle.sp_parser.proofs.parse.parse_expr.Goals as goal
 

@@ -1,0 +1,12 @@
+pub mod Laws
+pub mod Chain
+pub mod Steps
+pub mod Places
+pub mod Lists
+pub mod Refusals
+pub mod Guards
+pub mod Rules
+pub mod Inside
+pub mod Pairs
+pub mod Chains
+pub mod Tokens

@@ -1,0 +1,5 @@
+pub mod TreeLemmas
+mod PlainChanges
+mod Examples
+mod NameLemmas
+mod WorkedLemmas

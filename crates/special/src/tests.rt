@@ -26,7 +26,7 @@ fn a_folder_answers_each_load(rt: HostRuntime) -> Result<(), Fail> {
     );
     fs::remove_file(&rt, name.as_str())?;
     assert_eq!(rt;
-        library.load(&name, 5000, &mut into),
+        library.load(&name, 5000, &mut Vec::new(alloc)),
         Err(LoadFault::Missing)
     );
     Ok(())

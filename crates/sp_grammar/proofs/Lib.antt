@@ -10,3 +10,7 @@ pub mod Inside
 pub mod Pairs
 pub mod Chains
 pub mod Tokens
+pub mod Forms
+pub mod Within
+pub mod Stands
+pub mod Nested

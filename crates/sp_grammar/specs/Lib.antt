@@ -1,2 +1,4 @@
 pub mod Codes
 pub mod Lang
+pub mod Within
+pub mod Texts

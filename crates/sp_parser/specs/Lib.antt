@@ -1,5 +1,1 @@
-pub mod Contract
-pub mod Front
-pub mod Grammar
-pub mod Levels
-pub mod Marks
+pub mod Modules

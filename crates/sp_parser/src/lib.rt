@@ -1,14 +1,7 @@
-//! Reads the grammars of texts from their tokens.
+//! Reads the texts of modules from their tokens.
 #![tactic(auto)]
 
-mod build;
-mod expr;
-mod leaf;
-mod level;
 mod parse;
-mod tokens;
 
-pub use parse::parse_expr;
-
-#[cfg(test)]
-mod tests;
+pub use parse::parse_module;
+pub use sp_expression::parse_expr;

@@ -1,44 +1,25 @@
-ghost use Rattle.std.specs.Prelude.{◌≤◌, length, All};
+ghost use Rattle.std.specs.Prelude.{All};
 ghost use Rattle.sp_lexer.specs.Tokens.{IsUnsigned};
-ghost use Rattle.sp_parser.specs.Front.{Answers, AnswersOnly};
-ghost use Rattle.sp_parser.specs.Grammar.{expression};
+ghost use Rattle.sp_grammar.specs.Texts.{AnswersText, AnswersTextOnly};
+ghost use Rattle.sp_parser.specs.Modules.{module_line};
 
-use crate::expr::parse_chain;
-use crate::level::Chain;
-use crate::tokens::{begins_expr, too_high, unexpected};
 use sp_text::{TextFault, Token};
-use sp_tree::ExprTree;
+use sp_tree::Module;
 use std::alloc::Global;
 
-/// The expression that begins at the token `at`, within a height of `budget`, and the index of the token behind it.
-///
-/// The front is the longest list of tokens from `at` on that an expression of some height can begin with. `end` is the
-/// length of the text in bytes.
+/// The module that all the tokens are; `end` is the length of their text in bytes.
 ///
 /// # Errors
-/// Where the front is no expression of height at most `budget`, the fault is that of the first token up to and with
-/// which the tokens are a prefix of no such expression: Limit height where the token belongs to the front, else
-/// Unexpected; past the last token its place is the end of the text. `Memory` where the tree can't be kept.
-pub fn parse_expr(
-    alloc: Global,
-    tokens: &[Token],
-    at: usize,
-    end: u32,
-    budget: u32,
-) -> Result<(ExprTree, usize), TextFault>
-    requires within { at ≤ length tokens.now }
+/// Where the tokens are no module within the limits of height and of the nesting of effects, the fault is that of the first
+/// token up to and with which they are a prefix of no such module: Limit height or Limit effect nesting where the token
+/// exceeds that limit, else Unexpected; past the last token its place is the end of the text. `Memory` where the tree
+/// can't be kept.
+pub fn parse_module(alloc: Global, tokens: &[Token], end: u32) -> Result<Module, TextFault>
     requires unsigned { All (λ t. IsUnsigned t.kind) tokens.now }
-    ensures answers { Answers (expression tokens.now) budget tokens.now end at result }
+    ensures answers { AnswersText (module_line tokens.now) tokens.now end result }
 
-    // So where the front is an expression within the height, its tree is the answer, but for memory.
-    ensures only { AnswersOnly (expression tokens.now) budget at result }
+    // So where the tokens are a module, its tree is the answer, but for memory.
+    ensures only { AnswersTextOnly (module_line tokens.now) tokens.now result }
 {
-    if budget < 1 {
-        if begins_expr(tokens, at) {
-            return Err(too_high(tokens, end, at));
-        }
-        return Err(unexpected(tokens, end, at));
-    }
-    let found = parse_chain(alloc, tokens, at, end, budget, Chain::Iff)?;
-    Ok((found.tree, found.next))
+    Err(TextFault::Memory)
 }

@@ -1,0 +1,6 @@
+pub mod Front
+pub mod Laws
+pub mod Leaves
+pub mod Levels
+pub mod Ranks
+pub mod Steps

@@ -23,7 +23,7 @@ use Rattle.sp_expression.specs.Contract.{type_first, expression_first}
 use Rattle.sp_expression.specs.Grammar.{at, ident, type_line, formal_line, expression}
 use Rattle.sp_expression.proofs.Laws.{fine_ident, type_rule, formal_rule, exprs, expr_rule, expression_more}
 use Rattle.sp_expression.proofs.Steps.{empty_expr}
-use Rattle.sp_parser.specs.Modules.{one_or_more, formals_list, typed_header, no_members, some_members, type_decl, ended, definition, external, exception, given_list, Marks, hidden_mark, exceptions_mark, marks_or, initial_body, derived_body, value_function, operation, value_operation, plain_effect, module_of, if_effect, bound_list, forall_effect, plain_line, if_effect_line, forall_effect_line, bound_line, effect_line}
+use Rattle.sp_parser.specs.Modules.{one_or_more, formals_list, typed_header, no_members, some_members, type_decl, ended, external, given_list, Named, Operation, Marks, hidden_mark, exceptions_mark, marks_or, initial_body, derived_body, value_function, operation, value_operation, plain_effect, module_of, if_effect, bound_list, forall_effect, plain_line, if_effect_line, forall_effect_line, bound_line, effect_line}
 
 module _ (ts : List Token) where
   abbrev pub A : ℕ → ℕ
@@ -72,11 +72,14 @@ module _ (ts : List Token) where
 
   -- headers
 
-  abbrev pub header_end : Form A (Ident × List FormalTree)
-  header_end = seq_form A ident_form formals_form refl
+  abbrev pub named_form : Form A Named
+  named_form = seq_form A ident_form formals_form refl
 
   abbrev pub header_form : Form A Header
-  header_form = made_form A typed_header (seq_form A type_form header_end refl)
+  header_form = made_form A typed_header (seq_form A type_form named_form refl)
+
+  abbrev pub returned_form : Form A TypeTree
+  returned_form = behind_form A arrow type_form
 
   -- types
 
@@ -117,23 +120,17 @@ module _ (ts : List Token) where
 
   -- expressions with what ends them
 
-  abbrev pub expr_end : Form A (ExprTree × Unit {0})
-  expr_end = seq_form A expr_form (word_form semicolon) refl
+  abbrev pub statement_form : Form A ExprTree
+  statement_form = made_form A ended (seq_form A expr_form (word_form semicolon) refl)
 
-  abbrev pub assertion_form : Form A ExprTree
-  assertion_form = made_form A ended expr_end
-
-  abbrev pub is_end : Form A (Unit {0} × (ExprTree × Unit {0}))
-  is_end = seq_form A (word_form word_is) expr_end refl
+  abbrev pub statement_behind_form : ℕ → Form A ExprTree
+  statement_behind_form c = behind_form A c statement_form
 
   abbrev pub definition_form : Form A (Header × ExprTree)
-  definition_form = made_form A definition (seq_form A header_form is_end refl)
-
-  abbrev pub exception_end : Form A (Unit {0} × (ExprTree × Unit {0}))
-  exception_end = seq_form A (word_form colon) expr_end refl
+  definition_form = seq_form A header_form (statement_behind_form word_is) refl
 
   abbrev pub exception_form : Form A (Ident × ExprTree)
-  exception_form = made_form A exception (seq_form A ident_form exception_end refl)
+  exception_form = seq_form A ident_form (statement_behind_form colon) refl
 
   abbrev pub exception_list : Form A (List (Ident × ExprTree))
   exception_list = star_form A exception_form refl refl
@@ -157,21 +154,21 @@ module _ (ts : List Token) where
   marks_form = made_form A marks_or (optional_form A mark_form refl)
 
   abbrev pub initially_form : Form A Body
-  initially_form = made_form A initial_body (seq_form A (behind_form A word_initially expr_form) (word_form semicolon) refl)
+  initially_form = made_form A initial_body (statement_behind_form word_initially)
 
   abbrev pub derivation_form : Form A Body
-  derivation_form = made_form A derived_body (seq_form A (behind_form A word_derivation expr_form) (word_form semicolon) refl)
+  derivation_form = made_form A derived_body (statement_behind_form word_derivation)
 
   abbrev pub value_body_form : Form A Body
   value_body_form = either_form A initially_form derivation_form refl refl refl
 
   -- effects
 
-  abbrev pub plain_expr_form : Form A ExprTree
-  plain_expr_form = not_from_form A (word_if ∷ word_forall ∷ []) expr_form refl
+  abbrev pub plain_statement_form : Form A ExprTree
+  plain_statement_form = not_from_form A (word_if ∷ word_forall ∷ []) statement_form refl
 
   abbrev pub plain_form : Form A EffectTree
-  plain_form = made_form A plain_effect (seq_form A plain_expr_form (word_form semicolon) refl)
+  plain_form = made_form A plain_effect plain_statement_form
 
   -- what the effects in an effect may be
   pub record Effects : Type 1 where
@@ -336,6 +333,9 @@ module _ (ts : List Token) where
   abbrev pub effects_part : Form A (List EffectTree)
   effects_part = behind_form A word_effects effects_form
 
+  abbrev pub operation_body_form : Form A Operation
+  operation_body_form = seq_form A maybe_exceptions_form effects_part refl
+
   abbrev pub value_end : Form A (Marks × Body)
   value_end = seq_form A marks_form value_body_form refl
 
@@ -343,49 +343,31 @@ module _ (ts : List Token) where
   value_semicolon = seq_form A (word_form semicolon) value_end refl
 
   abbrev pub value_type : Form A (TypeTree × (Unit {0} × (Marks × Body)))
-  value_type = seq_form A type_form value_semicolon refl
+  value_type = seq_form A returned_form value_semicolon refl
 
-  abbrev pub value_arrow : Form A (Unit {0} × (TypeTree × (Unit {0} × (Marks × Body))))
-  value_arrow = seq_form A (word_form arrow) value_type refl
-
-  abbrev pub value_formals : Form A (List FormalTree × (Unit {0} × (TypeTree × (Unit {0} × (Marks × Body)))))
-  value_formals = seq_form A formals_form value_arrow refl
-
-  abbrev pub value_name : Form A (Ident × (List FormalTree × (Unit {0} × (TypeTree × (Unit {0} × (Marks × Body))))))
-  value_name = seq_form A ident_form value_formals refl
+  abbrev pub value_name : Form A (Named × (TypeTree × (Unit {0} × (Marks × Body))))
+  value_name = seq_form A named_form value_type refl
 
   abbrev pub value_function_form : Form A FunDecl
   value_function_form = made_form A value_function (seq_form A (word_form word_vfun) value_name refl)
 
-  abbrev pub operation_end : Form A (List (Ident × ExprTree) × List EffectTree)
-  operation_end = seq_form A maybe_exceptions_form effects_part refl
+  abbrev pub operation_semicolon : Form A (Unit {0} × Operation)
+  operation_semicolon = seq_form A (word_form semicolon) operation_body_form refl
 
-  abbrev pub operation_semicolon : Form A (Unit {0} × (List (Ident × ExprTree) × List EffectTree))
-  operation_semicolon = seq_form A (word_form semicolon) operation_end refl
-
-  abbrev pub operation_formals : Form A (List FormalTree × (Unit {0} × (List (Ident × ExprTree) × List EffectTree)))
-  operation_formals = seq_form A formals_form operation_semicolon refl
-
-  abbrev pub operation_name : Form A (Ident × (List FormalTree × (Unit {0} × (List (Ident × ExprTree) × List EffectTree))))
-  operation_name = seq_form A ident_form operation_formals refl
+  abbrev pub operation_name : Form A (Named × (Unit {0} × Operation))
+  operation_name = seq_form A named_form operation_semicolon refl
 
   abbrev pub operation_form : Form A FunDecl
   operation_form = made_form A operation (seq_form A (word_form word_ofun) operation_name refl)
 
-  abbrev pub result_end : Form A (Ident × (Unit {0} × (List (Ident × ExprTree) × List EffectTree)))
+  abbrev pub result_end : Form A (Ident × (Unit {0} × Operation))
   result_end = seq_form A ident_form operation_semicolon refl
 
-  abbrev pub result_type : Form A (TypeTree × (Ident × (Unit {0} × (List (Ident × ExprTree) × List EffectTree))))
-  result_type = seq_form A type_form result_end refl
+  abbrev pub result_type : Form A (TypeTree × (Ident × (Unit {0} × Operation)))
+  result_type = seq_form A returned_form result_end refl
 
-  abbrev pub result_arrow : Form A (Unit {0} × (TypeTree × (Ident × (Unit {0} × (List (Ident × ExprTree) × List EffectTree)))))
-  result_arrow = seq_form A (word_form arrow) result_type refl
-
-  abbrev pub result_formals : Form A (List FormalTree × (Unit {0} × (TypeTree × (Ident × (Unit {0} × (List (Ident × ExprTree) × List EffectTree))))))
-  result_formals = seq_form A formals_form result_arrow refl
-
-  abbrev pub result_name : Form A (Ident × (List FormalTree × (Unit {0} × (TypeTree × (Ident × (Unit {0} × (List (Ident × ExprTree) × List EffectTree)))))))
-  result_name = seq_form A ident_form result_formals refl
+  abbrev pub result_name : Form A (Named × (TypeTree × (Ident × (Unit {0} × Operation))))
+  result_name = seq_form A named_form result_type refl
 
   abbrev pub value_operation_form : Form A FunDecl
   value_operation_form = made_form A value_operation (seq_form A (word_form word_ovfun) result_name refl)
@@ -414,7 +396,7 @@ module _ (ts : List Token) where
   externals_form = section_form word_external_refs external_form refl refl
 
   abbrev pub assertions_form : Form A (List ExprTree)
-  assertions_form = section_form word_assertions assertion_form refl refl
+  assertions_form = section_form word_assertions statement_form refl refl
 
   abbrev pub functions_form : Form A (List FunDecl)
   functions_form = section_form word_functions function_form refl refl

@@ -35,7 +35,11 @@ one_or_more p i j = p.0 ∷ p.1
 abbrev pub formals_list : Unit {0} × (Option (List FormalTree) × Unit {0}) → ℕ → ℕ → List FormalTree
 formals_list p i j = list_or (p.1.0)
 
-abbrev pub typed_header : TypeTree × (Ident × List FormalTree) → ℕ → ℕ → Header
+-- a name with its formals
+abbrev pub Named : Type 0
+Named = Ident × List FormalTree
+
+abbrev pub typed_header : TypeTree × Named → ℕ → ℕ → Header
 typed_header p i j = record { name = p.1.0; formals = p.1.1; ty = Some p.0; result = None }
 
 abbrev pub no_members : Unit {0} → ℕ → ℕ → Option (List Ident)
@@ -50,14 +54,8 @@ type_decl p i j = record { name = p.0; members = p.1.1.0 }
 abbrev pub ended : {V : Type 0} → V × Unit {0} → ℕ → ℕ → V
 ended p i j = p.0
 
-abbrev pub definition : Header × (Unit {0} × (ExprTree × Unit {0})) → ℕ → ℕ → Header × ExprTree
-definition p i j = (p.0, p.1.1.0)
-
 abbrev pub external : Unit {0} × (Ident × (Unit {0} × (List Ident × Unit {0}))) → ℕ → ℕ → Ident × List Ident
 external p i j = (p.1.0, p.1.1.1.0)
-
-abbrev pub exception : Ident × (Unit {0} × (ExprTree × Unit {0})) → ℕ → ℕ → Ident × ExprTree
-exception p i j = (p.0, p.1.1.0)
 
 abbrev pub given_list : {V : Type 0} → Option (List V) → ℕ → ℕ → List V
 given_list o i j = list_or o
@@ -76,41 +74,45 @@ abbrev pub marks_or : Option Marks → ℕ → ℕ → Marks
 marks_or None i j = (false, [])
 marks_or (Some m) i j = m
 
-abbrev pub initial_body : ExprTree × Unit {0} → ℕ → ℕ → Body
-initial_body p i j = body.Initially p.0
+abbrev pub initial_body : ExprTree → ℕ → ℕ → Body
+initial_body e i j = body.Initially e
 
-abbrev pub derived_body : ExprTree × Unit {0} → ℕ → ℕ → Body
-derived_body p i j = body.Derivation p.0
+abbrev pub derived_body : ExprTree → ℕ → ℕ → Body
+derived_body e i j = body.Derivation e
 
--- VFUN, the name, the formals, the arrow, the type, the semicolon, the marks, the body
-abbrev pub value_function : Unit {0} × (Ident × (List FormalTree × (Unit {0} × (TypeTree × (Unit {0} × (Marks × Body)))))) → ℕ → ℕ → FunDecl
+-- exceptions and effects
+abbrev pub Operation : Type 0
+Operation = List (Ident × ExprTree) × List EffectTree
+
+-- VFUN, the name with its formals, the type, the semicolon, the marks, the body
+abbrev pub value_function : Unit {0} × (Named × (TypeTree × (Unit {0} × (Marks × Body)))) → ℕ → ℕ → FunDecl
 value_function p i j = record {
-  head = record { name = p.1.0; formals = p.1.1.0; ty = Some (p.1.1.1.1.0); result = None };
-  hidden = p.1.1.1.1.1.1.0.0;
-  exceptions = p.1.1.1.1.1.1.0.1;
-  body = p.1.1.1.1.1.1.1;
+  head = record { name = p.1.0.0; formals = p.1.0.1; ty = Some (p.1.1.0); result = None };
+  hidden = p.1.1.1.1.0.0;
+  exceptions = p.1.1.1.1.0.1;
+  body = p.1.1.1.1.1;
 }
 
--- OFUN, the name, the formals, the semicolon, the exceptions, the effects
-abbrev pub operation : Unit {0} × (Ident × (List FormalTree × (Unit {0} × (List (Ident × ExprTree) × List EffectTree)))) → ℕ → ℕ → FunDecl
+-- OFUN, the name with its formals, the semicolon, the exceptions and effects
+abbrev pub operation : Unit {0} × (Named × (Unit {0} × Operation)) → ℕ → ℕ → FunDecl
 operation p i j = record {
-  head = record { name = p.1.0; formals = p.1.1.0; ty = None; result = None };
+  head = record { name = p.1.0.0; formals = p.1.0.1; ty = None; result = None };
   hidden = false;
-  exceptions = p.1.1.1.1.0;
-  body = body.Effects (p.1.1.1.1.1);
+  exceptions = p.1.1.1.0;
+  body = body.Effects (p.1.1.1.1);
 }
 
--- OVFUN, the name, the formals, the arrow, the type, the result's name, the semicolon, the exceptions, the effects
-abbrev pub value_operation : Unit {0} × (Ident × (List FormalTree × (Unit {0} × (TypeTree × (Ident × (Unit {0} × (List (Ident × ExprTree) × List EffectTree))))))) → ℕ → ℕ → FunDecl
+-- OVFUN, the name with its formals, the type, the result's name, the semicolon, the exceptions and effects
+abbrev pub value_operation : Unit {0} × (Named × (TypeTree × (Ident × (Unit {0} × Operation)))) → ℕ → ℕ → FunDecl
 value_operation p i j = record {
-  head = record { name = p.1.0; formals = p.1.1.0; ty = Some (p.1.1.1.1.0); result = Some (p.1.1.1.1.1.0) };
+  head = record { name = p.1.0.0; formals = p.1.0.1; ty = Some (p.1.1.0); result = Some (p.1.1.1.0) };
   hidden = false;
-  exceptions = p.1.1.1.1.1.1.1.0;
-  body = body.Effects (p.1.1.1.1.1.1.1.1);
+  exceptions = p.1.1.1.1.1.0;
+  body = body.Effects (p.1.1.1.1.1.1);
 }
 
-abbrev pub plain_effect : ExprTree × Unit {0} → ℕ → ℕ → EffectTree
-plain_effect p i j = effect.Plain p.0
+abbrev pub plain_effect : ExprTree → ℕ → ℕ → EffectTree
+plain_effect e i j = effect.Plain e
 
 -- the variables of a FORALL effect
 abbrev pub bound_list : FormalTree × Option FormalTree → ℕ → ℕ → List FormalTree
@@ -153,9 +155,17 @@ module _ (ts : List Token) where
   abbrev pub formals_line : Lang (List FormalTree)
   formals_line = made formals_list (seq (word left_parenthesis) (seq (optional some_formals) (word right_parenthesis)))
 
+  -- name formals
+  abbrev pub named_line : Lang Named
+  named_line = seq (ident ts) formals_line
+
   -- type name formals
   abbrev pub header_line : Lang Header
-  header_line = made typed_header (seq (type_line ts) (seq (ident ts) formals_line))
+  header_line = made typed_header (seq (type_line ts) named_line)
+
+  -- "->" type
+  abbrev pub returned_line : Lang TypeTree
+  returned_line = behind (at ts) arrow (type_line ts)
 
   -- DESIGNATOR | "{" names "}"
   abbrev pub members_line : Lang (Option (List Ident))
@@ -184,16 +194,16 @@ module _ (ts : List Token) where
   -- The lines with expressions in them.
   module _ (expr : Lang ExprTree) where
     -- expr ";"
-    abbrev pub assertion_line : Lang ExprTree
-    assertion_line = made ended (seq expr (word semicolon))
+    abbrev pub statement_line : Lang ExprTree
+    statement_line = made ended (seq expr (word semicolon))
 
     -- type name formals IS expr ";"
     abbrev pub definition_line : Lang (Header × ExprTree)
-    definition_line = made definition (seq header_line (seq (word word_is) (seq expr (word semicolon))))
+    definition_line = seq header_line (behind (at ts) word_is statement_line)
 
     -- name ":" expr ";"
     abbrev pub exception_line : Lang (Ident × ExprTree)
-    exception_line = made exception (seq (ident ts) (seq (word colon) (seq expr (word semicolon))))
+    exception_line = seq (ident ts) (behind (at ts) colon statement_line)
 
     -- exceptions = EXCEPTIONS {name ":" expr ";"}
     abbrev pub exceptions_line : Lang (List (Ident × ExprTree))
@@ -209,11 +219,11 @@ module _ (ts : List Token) where
 
     -- (INITIALLY | DERIVATION) expr ";"
     abbrev pub value_body : Lang Body
-    value_body = either (made initial_body (seq (behind (at ts) word_initially expr) (word semicolon))) (made derived_body (seq (behind (at ts) word_derivation expr) (word semicolon)))
+    value_body = either (made initial_body (behind (at ts) word_initially statement_line)) (made derived_body (behind (at ts) word_derivation statement_line))
 
     -- expr ";"  where expr begins with neither IF nor FORALL
     abbrev pub plain_line : Lang EffectTree
-    plain_line = made plain_effect (seq (not_from (at ts) (word_if ∷ word_forall ∷ []) expr) (word semicolon))
+    plain_line = made plain_effect (not_from (at ts) (word_if ∷ word_forall ∷ []) statement_line)
 
     -- The effects with others in them, which have one less to spend on nesting.
     module _ (effects : Lang (List EffectTree)) where
@@ -248,21 +258,25 @@ module _ (ts : List Token) where
     -- VFUN name formals "->" type ";" [HIDDEN ";" | exceptions] (INITIALLY | DERIVATION) expr ";"
     abbrev pub value_function_line : Lang FunDecl
     value_function_line = made value_function
-        (seq (word word_vfun) (seq (ident ts) (seq formals_line (seq (word arrow) (seq (type_line ts) (seq (word semicolon) (seq (marks_line expr_within) (value_body expr_within))))))))
+        (seq (word word_vfun) (seq named_line (seq returned_line (seq (word semicolon) (seq (marks_line expr_within) (value_body expr_within))))))
 
     -- EFFECTS {effect}
     abbrev pub effects_line : Lang (List EffectTree)
     effects_line = behind (at ts) word_effects effects_within
 
+    -- [exceptions] EFFECTS {effect}
+    abbrev pub operation_body : Lang Operation
+    operation_body = seq (maybe_exceptions expr_within) effects_line
+
     -- OFUN name formals ";" [exceptions] EFFECTS {effect}
     abbrev pub operation_line : Lang FunDecl
     operation_line = made operation
-        (seq (word word_ofun) (seq (ident ts) (seq formals_line (seq (word semicolon) (seq (maybe_exceptions expr_within) effects_line)))))
+        (seq (word word_ofun) (seq named_line (seq (word semicolon) operation_body)))
 
     -- OVFUN name formals "->" type name ";" [exceptions] EFFECTS {effect}
     abbrev pub value_operation_line : Lang FunDecl
     value_operation_line = made value_operation
-        (seq (word word_ovfun) (seq (ident ts) (seq formals_line (seq (word arrow) (seq (type_line ts) (seq (ident ts) (seq (word semicolon) (seq (maybe_exceptions expr_within) effects_line))))))))
+        (seq (word word_ovfun) (seq named_line (seq returned_line (seq (ident ts) (seq (word semicolon) operation_body)))))
 
     abbrev pub function_line : Lang FunDecl
     function_line = either value_function_line (either operation_line value_operation_line)
@@ -273,4 +287,4 @@ module _ (ts : List Token) where
     module_line = made module_of
         (seq (word word_module) (seq (ident ts) (seq (section word_types type_decl_line) (seq (section word_parameters parameter_line)
         (seq (section word_definitions (definition_line expr_within)) (seq (section word_external_refs external_line)
-        (seq (section word_assertions (assertion_line expr_within)) (seq (section word_functions function_line) (word word_end_module)))))))))
+        (seq (section word_assertions (statement_line expr_within)) (seq (section word_functions function_line) (word word_end_module)))))))))

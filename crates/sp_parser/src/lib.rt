@@ -1,7 +1,11 @@
 //! Reads the texts of modules from their tokens.
 #![tactic(auto)]
 
+mod names;
 mod parse;
+mod part;
+mod statements;
+mod tokens;
 
 pub use parse::parse_module;
 pub use sp_expression::parse_expr;

@@ -118,8 +118,8 @@ module _ (ts : List Token) where
     pub section_absent : (i : ℕ) → (A i ≡ c → ⊥) → ReadsWithin (within n) section.form [] i i
     section_absent i ne = (in_made given_list _ (alone (within n) section.form i)).reads None i (reads_omitted A (behind_form A c stars) refl (within n) i (λ h. ne (only c (A i) h)))
 
-    pub on_section : {i k : ℕ} → k ≡ suc i → A i ≡ c → Stands (within n) stars.form k section.form i (λ v j. v)
-    on_section {i} {k} e o =
+    pub on_section : (i k : ℕ) → k ≡ suc i → A i ≡ c → Stands (within n) stars.form k section.form i (λ v j. v)
+    on_section i k e o =
         let b = on_behind c n stars e o in
         let m = in_made given_list _ (alone (within n) section.form i) in
         record {

@@ -4,6 +4,7 @@
 mod names;
 mod parse;
 mod part;
+mod sections;
 mod statements;
 mod tokens;
 

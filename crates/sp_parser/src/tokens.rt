@@ -1,7 +1,9 @@
-ghost use Rattle.std.specs.Prelude.{◌≡◌, ◌+◌, ◌≤◌, ◌<◌, ℕ, suc, length, All, IfOk, MatchResult};
+ghost use Rattle.std.specs.Prelude.{◌≡◌, ◌+◌, ◌≤◌, ◌<◌, ℕ, suc, [], ◌∷◌, length, All, IfOk, MatchResult};
 ghost use Rattle.sp_lexer.specs.Tokens.{IsUnsigned};
-ghost use Rattle.sp_grammar.specs.Lang.{token};
+ghost use Rattle.sp_grammar.specs.Codes.{code_at, name_code};
+ghost use Rattle.sp_grammar.specs.Lang.{has, token};
 ghost use Rattle.sp_grammar.specs.Within.{ReadsWithin};
+ghost use Rattle.sp_expression.specs.Contract.{type_first};
 ghost use Rattle.sp_expression.specs.Grammar.{at, formal_line, ident, type_line};
 ghost use Rattle.sp_expression.specs.Marks.{mark_code};
 ghost use Rattle.sp_parser.specs.Contract.{fixed, within, FailsWithin, ParsesWithin};
@@ -10,7 +12,7 @@ ghost use Rattle.sp_parser.specs.Modules.{expr_within};
 use crate::part::Part;
 use sp_expression::leaf::{formal, ident_at, type_at};
 use sp_expression::read_expr;
-use sp_expression::tokens::{Mark, is, unexpected};
+use sp_expression::tokens::{BOOLEAN, INTEGER, LEVEL, Mark, is, name_at, unexpected};
 use sp_text::{Keyword, Symbol, TextFault, Token};
 use sp_tree::{ExprTree, FormalTree, Ident, TypeTree};
 use std::alloc::Global;
@@ -63,6 +65,26 @@ pub const ARROW: Mark = Mark::Symbol(Symbol::Arrow);
 
 /// The limit of height of an expression.
 const MOST_HEIGHT: u32 = 64;
+
+/// Whether a name stands there.
+pub fn begins_name(tokens: &[Token], place: usize) -> bool
+    ensures { result ≡ has (name_code ∷ []) (code_at tokens.now place) }
+{
+    match name_at(tokens, place) {
+        Some(_) => true,
+        None => false,
+    }
+}
+
+/// Whether a type can begin with the token.
+pub fn begins_type(tokens: &[Token], place: usize) -> bool
+    ensures { result ≡ has type_first (code_at tokens.now place) }
+{
+    is(tokens, place, BOOLEAN)
+        || is(tokens, place, INTEGER)
+        || is(tokens, place, LEVEL)
+        || begins_name(tokens, place)
+}
 
 /// The place behind this token, which has to stand there.
 pub fn expect(tokens: &[Token], start: usize, end: u32, mark: Mark) -> Result<usize, TextFault>

@@ -205,7 +205,7 @@ fn symbol_begins_expr(symbol: Symbol) -> bool
 
 /// Where the token stands, or the end of the text.
 #[tactic(auto, unfolding(sp_grammar::specs::Codes::place_of))]
-fn place_at(tokens: &[Token], end: u32, place: usize) -> Span
+pub fn place_at(tokens: &[Token], end: u32, place: usize) -> Span
     ensures { result ≡ place_of tokens.now end place }
 {
     match at(tokens, place) {

@@ -170,6 +170,14 @@ module _ (ts : List Token) where
   abbrev pub plain_form : Form A EffectTree
   plain_form = made_form A plain_effect plain_statement_form
 
+  -- the variables of a FORALL effect
+
+  abbrev pub second_bound : Form A (Option FormalTree)
+  second_bound = optional_form A (behind_form A semicolon formal_form) refl
+
+  abbrev pub bound_form : Form A (List FormalTree)
+  bound_form = made_form A bound_list (seq_form A formal_form second_bound refl)
+
   -- what the effects in an effect may be
   pub record Effects : Type 1 where
     pub form : Limits → Lang (List EffectTree)
@@ -210,12 +218,6 @@ module _ (ts : List Token) where
 
     abbrev pub bound_colon : Form A (Unit {0} × (List EffectTree × (Unit {0} × Unit {0})))
     bound_colon = seq_form A (word_form colon) below_end refl
-
-    abbrev pub second_bound : Form A (Option FormalTree)
-    second_bound = optional_form A (behind_form A semicolon formal_form) refl
-
-    abbrev pub bound_form : Form A (List FormalTree)
-    bound_form = made_form A bound_list (seq_form A formal_form second_bound refl)
 
     abbrev pub bound_end : Form A (List FormalTree × (Unit {0} × (List EffectTree × (Unit {0} × Unit {0}))))
     bound_end = seq_form A bound_form bound_colon refl

@@ -1,5 +1,5 @@
 -- What the readers of tokens and of expressions find, as what is found within two budgets; and a fault of a part as one of the whole.
-use Rattle.std.proofs.Common.{◌≡◌, ℕ, suc, ◌+◌, ◌<◌, ◌≤◌, inl, inr, IsTrue, List, Result, Ok, Err, refl, subst, arith}
+use Rattle.std.proofs.Common.{◌≡◌, ℕ, suc, ◌+◌, ◌<◌, ◌≤◌, inl, inr, IsTrue, List, Result, Ok, Err, refl, sym, subst, arith}
 use Rattle.std.proofs.lemmas.Bool.{cases_lt}
 use Rattle.sp_text.specs.declared.token.Token.{Token}
 use Rattle.sp_text.specs.declared.fault.TextFault.{TextFault}
@@ -27,6 +27,10 @@ pub fails_by : {V W : Type 0} {b : Limits} {F : Limits → Lang V} {G : Limits �
 fails_by P ts end (fault.Malformed m) (n, S, p) = (n, P.refuses (stops n) S, p)
 fails_by P ts end (fault.Limit l) (q, n, X, p) = (q, n, P.refuses (exceeds q n) X, p)
 fails_by P ts end fault.Memory p = tt
+
+-- the same value under another name
+pub reads_as : {V : Type 0} {b : Limits} {F : Limits → Lang V} {v w : V} {i j : ℕ} → v ≡ w → ReadsWithin b F w i j → ReadsWithin b F v i j
+reads_as {V} {b} {F} {v} {w} {i} {j} e R = subst (λ z. ReadsWithin b F z i j) (sym e) R
 
 -- the last part of a form
 pub rest : {V W : Type 0} {b : Limits} {G : Limits → Lang V} {k : ℕ} {L : Limits → Lang W} {i : ℕ} {value : V → ℕ → W} → Stands b G k L i value → Passes b G k L i

@@ -23,6 +23,11 @@ use Rattle.sp_parser.proofs.Lifts.{Passes, fails_by, rest, first}
 abbrev pub second : {V : Type 0} → Unit {0} × V → ℕ → ℕ → V
 second p i j = p.1
 
+-- the same items under another name
+pub many_as : {at : ℕ → ℕ} {V : Type 0} {f : Form at V} {p : f.null ≡ false} {clear : IsTrue (apart f.more f.first)} {b : Limits} {us vs : List V} {i k : ℕ} → us ≡ vs
+    → ManyWithin at f p clear b vs i k → ManyWithin at f p clear b us i k
+many_as {at} {V} {f} {p} {clear} {b} {us} {vs} {i} {k} e M = subst (λ z. ManyWithin at f p clear b z i k) (sym e) M
+
 module _ (ts : List Token) where
   abbrev A : ℕ → ℕ
   A = at ts

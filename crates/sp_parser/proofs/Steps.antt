@@ -14,12 +14,12 @@ use Rattle.sp_tree.specs.declared.module.TypeDecl.{TypeDecl}
 use Rattle.sp_tree.specs.declared.module.Module.{Module}
 use Rattle.sp_grammar.specs.Lang.{seq}
 use Rattle.sp_grammar.specs.Within.{ReadsWithin}
-use Rattle.sp_grammar.specs.Codes.{word_from, word_is, semicolon, colon, arrow}
+use Rattle.sp_grammar.specs.Codes.{word_from, word_is, word_vfun, word_ofun, word_ovfun, word_effects, word_if, word_then, word_else, word_end_if, word_forall, word_end_forall, semicolon, colon, arrow}
 use Rattle.sp_grammar.proofs.Stands.{Stands, alone, in_made, behind_it}
 use Rattle.sp_expression.specs.Grammar.{at}
 use Rattle.sp_parser.specs.Contract.{within}
-use Rattle.sp_parser.specs.Modules.{typed_header, type_decl, ended, external}
-use Rattle.sp_parser.proofs.Forms.{word_form, ident_form, type_form, expr_form, names_form, formals_form, named_form, header_form, returned_form, members_form, members_end, colon_end, type_decl_form, parameter_form, external_names, external_colon, external_end, external_form, statement_form, statement_behind_form, definition_form, exception_form}
+use Rattle.sp_parser.specs.Modules.{Named, typed_header, type_decl, ended, external, Marks, value_function, operation, value_operation, if_effect, forall_effect}
+use Rattle.sp_parser.proofs.Forms.{word_form, ident_form, type_form, expr_form, names_form, formals_form, named_form, header_form, returned_form, members_form, members_end, colon_end, type_decl_form, parameter_form, external_names, external_colon, external_end, external_form, statement_form, statement_behind_form, definition_form, exception_form, maybe_exceptions_form, marks_form, value_body_form, bound_form, if_close, no_effects, else_end, yes_effects, then_end, condition_end, if_form, forall_close, below_end, bound_colon, bound_end, forall_form, effects_form, effects, effects_part, operation_body_form, value_end, value_semicolon, value_type, value_name, value_function_form, operation_semicolon, operation_name, operation_form, result_end, result_type, result_name, value_operation_form}
 use Rattle.sp_parser.proofs.Lists.{second}
 
 module _ (ts : List Token) (n : ℕ) where
@@ -97,3 +97,105 @@ module _ (ts : List Token) (n : ℕ) where
 
   pub exception_1 : {i : ℕ} {v1 : Ident} {k1 : ℕ} → ReadsWithin (within n) (ident_form ts).form v1 i k1 → Stands (within n) (statement_behind_form ts colon).form k1 (exception_form ts).form i (λ w j. (v1, w))
   exception_1 {i} R1 = behind_it (at ts) (ident_form ts) (statement_behind_form ts colon) refl (exception_0 i) R1
+
+  pub operation_body_0 : (i : ℕ) → Stands (within n) (λ l. seq ((maybe_exceptions_form ts).form l) ((effects_part ts).form l)) i (operation_body_form ts).form i (λ w j. w)
+  operation_body_0 i = alone (within n) (operation_body_form ts).form i
+
+  pub operation_body_1 : {i : ℕ} {v1 : List (Ident × ExprTree)} {k1 : ℕ} → ReadsWithin (within n) (maybe_exceptions_form ts).form v1 i k1 → Stands (within n) (effects_part ts).form k1 (operation_body_form ts).form i (λ w j. (v1, w))
+  operation_body_1 {i} R1 = behind_it (at ts) (maybe_exceptions_form ts) (effects_part ts) refl (operation_body_0 i) R1
+
+  pub effects_line_0 : (i : ℕ) → Stands (within n) (λ l. seq ((word_form ts word_effects).form l) ((effects_form ts).form l)) i (effects_part ts).form i (λ w j. second w i j)
+  effects_line_0 i = in_made second _ (alone (within n) (effects_part ts).form i)
+
+  pub effects_line_1 : {i : ℕ} {k1 : ℕ} → ReadsWithin (within n) (word_form ts word_effects).form tt i k1 → Stands (within n) (effects_form ts).form k1 (effects_part ts).form i (λ w j. second (tt, w) i j)
+  effects_line_1 {i} R1 = behind_it (at ts) (word_form ts word_effects) (effects_form ts) refl (effects_line_0 i) R1
+
+  pub value_function_0 : (i : ℕ) → Stands (within n) (λ l. seq ((word_form ts word_vfun).form l) ((value_name ts).form l)) i (value_function_form ts).form i (λ w j. value_function w i j)
+  value_function_0 i = in_made value_function _ (alone (within n) (value_function_form ts).form i)
+
+  pub value_function_1 : {i : ℕ} {k1 : ℕ} → ReadsWithin (within n) (word_form ts word_vfun).form tt i k1 → Stands (within n) (value_name ts).form k1 (value_function_form ts).form i (λ w j. value_function (tt, w) i j)
+  value_function_1 {i} R1 = behind_it (at ts) (word_form ts word_vfun) (value_name ts) refl (value_function_0 i) R1
+
+  pub value_function_2 : {i : ℕ} {k1 : ℕ} {v2 : Named} {k2 : ℕ} → ReadsWithin (within n) (word_form ts word_vfun).form tt i k1 → ReadsWithin (within n) (named_form ts).form v2 k1 k2 → Stands (within n) (value_type ts).form k2 (value_function_form ts).form i (λ w j. value_function (tt, (v2, w)) i j)
+  value_function_2 R1 R2 = behind_it (at ts) (named_form ts) (value_type ts) refl (value_function_1 R1) R2
+
+  pub value_function_3 : {i : ℕ} {k1 : ℕ} {v2 : Named} {k2 : ℕ} {v3 : TypeTree} {k3 : ℕ} → ReadsWithin (within n) (word_form ts word_vfun).form tt i k1 → ReadsWithin (within n) (named_form ts).form v2 k1 k2 → ReadsWithin (within n) (returned_form ts).form v3 k2 k3 → Stands (within n) (value_semicolon ts).form k3 (value_function_form ts).form i (λ w j. value_function (tt, (v2, (v3, w))) i j)
+  value_function_3 R1 R2 R3 = behind_it (at ts) (returned_form ts) (value_semicolon ts) refl (value_function_2 R1 R2) R3
+
+  pub value_function_4 : {i : ℕ} {k1 : ℕ} {v2 : Named} {k2 : ℕ} {v3 : TypeTree} {k3 : ℕ} {k4 : ℕ} → ReadsWithin (within n) (word_form ts word_vfun).form tt i k1 → ReadsWithin (within n) (named_form ts).form v2 k1 k2 → ReadsWithin (within n) (returned_form ts).form v3 k2 k3 → ReadsWithin (within n) (word_form ts semicolon).form tt k3 k4 → Stands (within n) (value_end ts).form k4 (value_function_form ts).form i (λ w j. value_function (tt, (v2, (v3, (tt, w)))) i j)
+  value_function_4 R1 R2 R3 R4 = behind_it (at ts) (word_form ts semicolon) (value_end ts) refl (value_function_3 R1 R2 R3) R4
+
+  pub value_function_5 : {i : ℕ} {k1 : ℕ} {v2 : Named} {k2 : ℕ} {v3 : TypeTree} {k3 : ℕ} {k4 : ℕ} {v5 : Marks} {k5 : ℕ} → ReadsWithin (within n) (word_form ts word_vfun).form tt i k1 → ReadsWithin (within n) (named_form ts).form v2 k1 k2 → ReadsWithin (within n) (returned_form ts).form v3 k2 k3 → ReadsWithin (within n) (word_form ts semicolon).form tt k3 k4 → ReadsWithin (within n) (marks_form ts).form v5 k4 k5 → Stands (within n) (value_body_form ts).form k5 (value_function_form ts).form i (λ w j. value_function (tt, (v2, (v3, (tt, (v5, w))))) i j)
+  value_function_5 R1 R2 R3 R4 R5 = behind_it (at ts) (marks_form ts) (value_body_form ts) refl (value_function_4 R1 R2 R3 R4) R5
+
+  pub operation_0 : (i : ℕ) → Stands (within n) (λ l. seq ((word_form ts word_ofun).form l) ((operation_name ts).form l)) i (operation_form ts).form i (λ w j. operation w i j)
+  operation_0 i = in_made operation _ (alone (within n) (operation_form ts).form i)
+
+  pub operation_1 : {i : ℕ} {k1 : ℕ} → ReadsWithin (within n) (word_form ts word_ofun).form tt i k1 → Stands (within n) (operation_name ts).form k1 (operation_form ts).form i (λ w j. operation (tt, w) i j)
+  operation_1 {i} R1 = behind_it (at ts) (word_form ts word_ofun) (operation_name ts) refl (operation_0 i) R1
+
+  pub operation_2 : {i : ℕ} {k1 : ℕ} {v2 : Named} {k2 : ℕ} → ReadsWithin (within n) (word_form ts word_ofun).form tt i k1 → ReadsWithin (within n) (named_form ts).form v2 k1 k2 → Stands (within n) (operation_semicolon ts).form k2 (operation_form ts).form i (λ w j. operation (tt, (v2, w)) i j)
+  operation_2 R1 R2 = behind_it (at ts) (named_form ts) (operation_semicolon ts) refl (operation_1 R1) R2
+
+  pub operation_3 : {i : ℕ} {k1 : ℕ} {v2 : Named} {k2 : ℕ} {k3 : ℕ} → ReadsWithin (within n) (word_form ts word_ofun).form tt i k1 → ReadsWithin (within n) (named_form ts).form v2 k1 k2 → ReadsWithin (within n) (word_form ts semicolon).form tt k2 k3 → Stands (within n) (operation_body_form ts).form k3 (operation_form ts).form i (λ w j. operation (tt, (v2, (tt, w))) i j)
+  operation_3 R1 R2 R3 = behind_it (at ts) (word_form ts semicolon) (operation_body_form ts) refl (operation_2 R1 R2) R3
+
+  pub value_operation_0 : (i : ℕ) → Stands (within n) (λ l. seq ((word_form ts word_ovfun).form l) ((result_name ts).form l)) i (value_operation_form ts).form i (λ w j. value_operation w i j)
+  value_operation_0 i = in_made value_operation _ (alone (within n) (value_operation_form ts).form i)
+
+  pub value_operation_1 : {i : ℕ} {k1 : ℕ} → ReadsWithin (within n) (word_form ts word_ovfun).form tt i k1 → Stands (within n) (result_name ts).form k1 (value_operation_form ts).form i (λ w j. value_operation (tt, w) i j)
+  value_operation_1 {i} R1 = behind_it (at ts) (word_form ts word_ovfun) (result_name ts) refl (value_operation_0 i) R1
+
+  pub value_operation_2 : {i : ℕ} {k1 : ℕ} {v2 : Named} {k2 : ℕ} → ReadsWithin (within n) (word_form ts word_ovfun).form tt i k1 → ReadsWithin (within n) (named_form ts).form v2 k1 k2 → Stands (within n) (result_type ts).form k2 (value_operation_form ts).form i (λ w j. value_operation (tt, (v2, w)) i j)
+  value_operation_2 R1 R2 = behind_it (at ts) (named_form ts) (result_type ts) refl (value_operation_1 R1) R2
+
+  pub value_operation_3 : {i : ℕ} {k1 : ℕ} {v2 : Named} {k2 : ℕ} {v3 : TypeTree} {k3 : ℕ} → ReadsWithin (within n) (word_form ts word_ovfun).form tt i k1 → ReadsWithin (within n) (named_form ts).form v2 k1 k2 → ReadsWithin (within n) (returned_form ts).form v3 k2 k3 → Stands (within n) (result_end ts).form k3 (value_operation_form ts).form i (λ w j. value_operation (tt, (v2, (v3, w))) i j)
+  value_operation_3 R1 R2 R3 = behind_it (at ts) (returned_form ts) (result_end ts) refl (value_operation_2 R1 R2) R3
+
+  pub value_operation_4 : {i : ℕ} {k1 : ℕ} {v2 : Named} {k2 : ℕ} {v3 : TypeTree} {k3 : ℕ} {v4 : Ident} {k4 : ℕ} → ReadsWithin (within n) (word_form ts word_ovfun).form tt i k1 → ReadsWithin (within n) (named_form ts).form v2 k1 k2 → ReadsWithin (within n) (returned_form ts).form v3 k2 k3 → ReadsWithin (within n) (ident_form ts).form v4 k3 k4 → Stands (within n) (operation_semicolon ts).form k4 (value_operation_form ts).form i (λ w j. value_operation (tt, (v2, (v3, (v4, w)))) i j)
+  value_operation_4 R1 R2 R3 R4 = behind_it (at ts) (ident_form ts) (operation_semicolon ts) refl (value_operation_3 R1 R2 R3) R4
+
+  pub value_operation_5 : {i : ℕ} {k1 : ℕ} {v2 : Named} {k2 : ℕ} {v3 : TypeTree} {k3 : ℕ} {v4 : Ident} {k4 : ℕ} {k5 : ℕ} → ReadsWithin (within n) (word_form ts word_ovfun).form tt i k1 → ReadsWithin (within n) (named_form ts).form v2 k1 k2 → ReadsWithin (within n) (returned_form ts).form v3 k2 k3 → ReadsWithin (within n) (ident_form ts).form v4 k3 k4 → ReadsWithin (within n) (word_form ts semicolon).form tt k4 k5 → Stands (within n) (operation_body_form ts).form k5 (value_operation_form ts).form i (λ w j. value_operation (tt, (v2, (v3, (v4, (tt, w))))) i j)
+  value_operation_5 R1 R2 R3 R4 R5 = behind_it (at ts) (word_form ts semicolon) (operation_body_form ts) refl (value_operation_4 R1 R2 R3 R4) R5
+
+  pub if_0 : (i : ℕ) → Stands (within n) (λ l. seq ((word_form ts word_if).form l) ((condition_end ts (effects ts)).form l)) i (if_form ts (effects ts)).form i (λ w j. if_effect ts w i j)
+  if_0 i = in_made (if_effect ts) _ (alone (within n) (if_form ts (effects ts)).form i)
+
+  pub if_1 : {i : ℕ} {k1 : ℕ} → ReadsWithin (within n) (word_form ts word_if).form tt i k1 → Stands (within n) (condition_end ts (effects ts)).form k1 (if_form ts (effects ts)).form i (λ w j. if_effect ts (tt, w) i j)
+  if_1 {i} R1 = behind_it (at ts) (word_form ts word_if) (condition_end ts (effects ts)) refl (if_0 i) R1
+
+  pub if_2 : {i : ℕ} {k1 : ℕ} {v2 : ExprTree} {k2 : ℕ} → ReadsWithin (within n) (word_form ts word_if).form tt i k1 → ReadsWithin (within n) (expr_form ts).form v2 k1 k2 → Stands (within n) (then_end ts (effects ts)).form k2 (if_form ts (effects ts)).form i (λ w j. if_effect ts (tt, (v2, w)) i j)
+  if_2 R1 R2 = behind_it (at ts) (expr_form ts) (then_end ts (effects ts)) refl (if_1 R1) R2
+
+  pub if_3 : {i : ℕ} {k1 : ℕ} {v2 : ExprTree} {k2 : ℕ} {k3 : ℕ} → ReadsWithin (within n) (word_form ts word_if).form tt i k1 → ReadsWithin (within n) (expr_form ts).form v2 k1 k2 → ReadsWithin (within n) (word_form ts word_then).form tt k2 k3 → Stands (within n) (yes_effects ts (effects ts)).form k3 (if_form ts (effects ts)).form i (λ w j. if_effect ts (tt, (v2, (tt, w))) i j)
+  if_3 R1 R2 R3 = behind_it (at ts) (word_form ts word_then) (yes_effects ts (effects ts)) refl (if_2 R1 R2) R3
+
+  pub if_4 : {i : ℕ} {k1 : ℕ} {v2 : ExprTree} {k2 : ℕ} {k3 : ℕ} {v4 : List EffectTree} {k4 : ℕ} → ReadsWithin (within n) (word_form ts word_if).form tt i k1 → ReadsWithin (within n) (expr_form ts).form v2 k1 k2 → ReadsWithin (within n) (word_form ts word_then).form tt k2 k3 → ReadsWithin (within n) (effects_form ts).form v4 k3 k4 → Stands (within n) (else_end ts (effects ts)).form k4 (if_form ts (effects ts)).form i (λ w j. if_effect ts (tt, (v2, (tt, (v4, w)))) i j)
+  if_4 R1 R2 R3 R4 = behind_it (at ts) (effects_form ts) (else_end ts (effects ts)) refl (if_3 R1 R2 R3) R4
+
+  pub if_5 : {i : ℕ} {k1 : ℕ} {v2 : ExprTree} {k2 : ℕ} {k3 : ℕ} {v4 : List EffectTree} {k4 : ℕ} {k5 : ℕ} → ReadsWithin (within n) (word_form ts word_if).form tt i k1 → ReadsWithin (within n) (expr_form ts).form v2 k1 k2 → ReadsWithin (within n) (word_form ts word_then).form tt k2 k3 → ReadsWithin (within n) (effects_form ts).form v4 k3 k4 → ReadsWithin (within n) (word_form ts word_else).form tt k4 k5 → Stands (within n) (no_effects ts (effects ts)).form k5 (if_form ts (effects ts)).form i (λ w j. if_effect ts (tt, (v2, (tt, (v4, (tt, w))))) i j)
+  if_5 R1 R2 R3 R4 R5 = behind_it (at ts) (word_form ts word_else) (no_effects ts (effects ts)) refl (if_4 R1 R2 R3 R4) R5
+
+  pub if_6 : {i : ℕ} {k1 : ℕ} {v2 : ExprTree} {k2 : ℕ} {k3 : ℕ} {v4 : List EffectTree} {k4 : ℕ} {k5 : ℕ} {v6 : List EffectTree} {k6 : ℕ} → ReadsWithin (within n) (word_form ts word_if).form tt i k1 → ReadsWithin (within n) (expr_form ts).form v2 k1 k2 → ReadsWithin (within n) (word_form ts word_then).form tt k2 k3 → ReadsWithin (within n) (effects_form ts).form v4 k3 k4 → ReadsWithin (within n) (word_form ts word_else).form tt k4 k5 → ReadsWithin (within n) (effects_form ts).form v6 k5 k6 → Stands (within n) (if_close ts (effects ts)).form k6 (if_form ts (effects ts)).form i (λ w j. if_effect ts (tt, (v2, (tt, (v4, (tt, (v6, w)))))) i j)
+  if_6 R1 R2 R3 R4 R5 R6 = behind_it (at ts) (effects_form ts) (if_close ts (effects ts)) refl (if_5 R1 R2 R3 R4 R5) R6
+
+  pub if_7 : {i : ℕ} {k1 : ℕ} {v2 : ExprTree} {k2 : ℕ} {k3 : ℕ} {v4 : List EffectTree} {k4 : ℕ} {k5 : ℕ} {v6 : List EffectTree} {k6 : ℕ} {k7 : ℕ} → ReadsWithin (within n) (word_form ts word_if).form tt i k1 → ReadsWithin (within n) (expr_form ts).form v2 k1 k2 → ReadsWithin (within n) (word_form ts word_then).form tt k2 k3 → ReadsWithin (within n) (effects_form ts).form v4 k3 k4 → ReadsWithin (within n) (word_form ts word_else).form tt k4 k5 → ReadsWithin (within n) (effects_form ts).form v6 k5 k6 → ReadsWithin (within n) (word_form ts word_end_if).form tt k6 k7 → Stands (within n) (word_form ts semicolon).form k7 (if_form ts (effects ts)).form i (λ w j. if_effect ts (tt, (v2, (tt, (v4, (tt, (v6, (tt, w))))))) i j)
+  if_7 R1 R2 R3 R4 R5 R6 R7 = behind_it (at ts) (word_form ts word_end_if) (word_form ts semicolon) refl (if_6 R1 R2 R3 R4 R5 R6) R7
+
+  pub forall_0 : (i : ℕ) → Stands (within n) (λ l. seq ((word_form ts word_forall).form l) ((bound_end ts (effects ts)).form l)) i (forall_form ts (effects ts)).form i (λ w j. forall_effect ts w i j)
+  forall_0 i = in_made (forall_effect ts) _ (alone (within n) (forall_form ts (effects ts)).form i)
+
+  pub forall_1 : {i : ℕ} {k1 : ℕ} → ReadsWithin (within n) (word_form ts word_forall).form tt i k1 → Stands (within n) (bound_end ts (effects ts)).form k1 (forall_form ts (effects ts)).form i (λ w j. forall_effect ts (tt, w) i j)
+  forall_1 {i} R1 = behind_it (at ts) (word_form ts word_forall) (bound_end ts (effects ts)) refl (forall_0 i) R1
+
+  pub forall_2 : {i : ℕ} {k1 : ℕ} {v2 : List FormalTree} {k2 : ℕ} → ReadsWithin (within n) (word_form ts word_forall).form tt i k1 → ReadsWithin (within n) (bound_form ts).form v2 k1 k2 → Stands (within n) (bound_colon ts (effects ts)).form k2 (forall_form ts (effects ts)).form i (λ w j. forall_effect ts (tt, (v2, w)) i j)
+  forall_2 R1 R2 = behind_it (at ts) (bound_form ts) (bound_colon ts (effects ts)) refl (forall_1 R1) R2
+
+  pub forall_3 : {i : ℕ} {k1 : ℕ} {v2 : List FormalTree} {k2 : ℕ} {k3 : ℕ} → ReadsWithin (within n) (word_form ts word_forall).form tt i k1 → ReadsWithin (within n) (bound_form ts).form v2 k1 k2 → ReadsWithin (within n) (word_form ts colon).form tt k2 k3 → Stands (within n) (below_end ts (effects ts)).form k3 (forall_form ts (effects ts)).form i (λ w j. forall_effect ts (tt, (v2, (tt, w))) i j)
+  forall_3 R1 R2 R3 = behind_it (at ts) (word_form ts colon) (below_end ts (effects ts)) refl (forall_2 R1 R2) R3
+
+  pub forall_4 : {i : ℕ} {k1 : ℕ} {v2 : List FormalTree} {k2 : ℕ} {k3 : ℕ} {v4 : List EffectTree} {k4 : ℕ} → ReadsWithin (within n) (word_form ts word_forall).form tt i k1 → ReadsWithin (within n) (bound_form ts).form v2 k1 k2 → ReadsWithin (within n) (word_form ts colon).form tt k2 k3 → ReadsWithin (within n) (effects_form ts).form v4 k3 k4 → Stands (within n) (forall_close ts (effects ts)).form k4 (forall_form ts (effects ts)).form i (λ w j. forall_effect ts (tt, (v2, (tt, (v4, w)))) i j)
+  forall_4 R1 R2 R3 R4 = behind_it (at ts) (effects_form ts) (forall_close ts (effects ts)) refl (forall_3 R1 R2 R3) R4
+
+  pub forall_5 : {i : ℕ} {k1 : ℕ} {v2 : List FormalTree} {k2 : ℕ} {k3 : ℕ} {v4 : List EffectTree} {k4 : ℕ} {k5 : ℕ} → ReadsWithin (within n) (word_form ts word_forall).form tt i k1 → ReadsWithin (within n) (bound_form ts).form v2 k1 k2 → ReadsWithin (within n) (word_form ts colon).form tt k2 k3 → ReadsWithin (within n) (effects_form ts).form v4 k3 k4 → ReadsWithin (within n) (word_form ts word_end_forall).form tt k4 k5 → Stands (within n) (word_form ts semicolon).form k5 (forall_form ts (effects ts)).form i (λ w j. forall_effect ts (tt, (v2, (tt, (v4, (tt, w))))) i j)
+  forall_5 R1 R2 R3 R4 R5 = behind_it (at ts) (word_form ts word_end_forall) (word_form ts semicolon) refl (forall_4 R1 R2 R3 R4) R5

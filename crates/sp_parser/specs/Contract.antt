@@ -9,7 +9,8 @@ use Rattle.sp_grammar.specs.Within.{Limits, Budget, ReadsWithin, StopsWithin, Ex
 use Rattle.sp_grammar.specs.Codes.{place_of}
 use Rattle.sp_grammar.specs.Texts.{quantity_of}
 use Rattle.sp_tree.specs.declared.expr.ExprTree.{ExprTree}
-use Rattle.sp_parser.specs.Modules.{expr_within}
+use Rattle.sp_parser.specs.Modules.{effects_within, expr_within}
+use Rattle.sp_parser.specs.declared.effect.EffectList.{EffectList}
 use Rattle.sp_parser.specs.declared.part.Part.{Part}
 
 -- the limit of height, and this budget of nesting
@@ -33,3 +34,7 @@ FailsWithin b F ts end i fault.Memory = Unit {0}
 -- The answer is the form F and the place behind it, read from the token at i on within b.
 abbrev pub ParsesWithin : {V : Type 0} → Limits → (Limits → Lang V) → List Token → ℕ → ℕ → Result (Part V) TextFault → Type 0
 ParsesWithin b F ts end i r = MatchResult r (λ x. ReadsWithin b F x.tree i x.next) (FailsWithin b F ts end i)
+
+-- The same of effects, within this budget of nesting.
+abbrev pub ParsesEffects : ℕ → List Token → ℕ → ℕ → Result EffectList TextFault → Type 0
+ParsesEffects n ts end i r = MatchResult r (λ x. ReadsWithin (within n) (effects_within ts) x.items.items i x.next) (FailsWithin (within n) (effects_within ts) ts end i)

@@ -251,9 +251,12 @@ module _ (ts : List Token) where
     abbrev pub expr_within : Lang ExprTree
     expr_within = expression ts l.height
 
+    abbrev pub effect_within : Lang EffectTree
+    effect_within = effect_line l.height l.nesting
+
     -- {effect}
     abbrev pub effects_within : Lang (List EffectTree)
-    effects_within = star (effect_line l.height l.nesting)
+    effects_within = star effect_within
 
     -- VFUN name formals "->" type ";" [HIDDEN ";" | exceptions] (INITIALLY | DERIVATION) expr ";"
     abbrev pub value_function_line : Lang FunDecl
@@ -281,10 +284,14 @@ module _ (ts : List Token) where
     abbrev pub function_line : Lang FunDecl
     function_line = either value_function_line (either operation_line value_operation_line)
 
+    -- [FUNCTIONS {function}]
+    abbrev pub functions_section : Lang (List FunDecl)
+    functions_section = section word_functions function_line
+
     -- module = MODULE name [TYPES {typedecl}] [PARAMETERS {type name formals ";"}] [DEFINITIONS {type name formals IS expr ";"}]
     --   [EXTERNALREFS {FROM name ":" names ";"}] [ASSERTIONS {expr ";"}] [FUNCTIONS {function}] END_MODULE
     abbrev pub module_line : Lang Module
     module_line = made module_of
         (seq (word word_module) (seq (ident ts) (seq (section word_types type_decl_line) (seq (section word_parameters parameter_line)
         (seq (section word_definitions (definition_line expr_within)) (seq (section word_external_refs external_line)
-        (seq (section word_assertions (statement_line expr_within)) (seq (section word_functions function_line) (word word_end_module)))))))))
+        (seq (section word_assertions (statement_line expr_within)) (seq functions_section (word word_end_module)))))))))

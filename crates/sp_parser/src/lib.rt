@@ -1,6 +1,8 @@
 //! Reads the texts of modules from their tokens.
 #![tactic(auto)]
 
+mod effect;
+mod functions;
 mod names;
 mod parse;
 mod part;

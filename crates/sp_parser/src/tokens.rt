@@ -1,6 +1,6 @@
 ghost use Rattle.std.specs.Prelude.{◌≡◌, ◌+◌, ◌≤◌, ◌<◌, ℕ, suc, [], ◌∷◌, length, All, IfOk, MatchResult};
 ghost use Rattle.sp_lexer.specs.Tokens.{IsUnsigned};
-ghost use Rattle.sp_grammar.specs.Codes.{code_at, name_code};
+ghost use Rattle.sp_grammar.specs.Codes.{code_at, name_code, word_ofun, word_ovfun, word_vfun};
 ghost use Rattle.sp_grammar.specs.Lang.{has, token};
 ghost use Rattle.sp_grammar.specs.Within.{ReadsWithin};
 ghost use Rattle.sp_expression.specs.Contract.{type_first};
@@ -66,6 +66,9 @@ pub const ARROW: Mark = Mark::Symbol(Symbol::Arrow);
 /// The limit of height of an expression.
 const MOST_HEIGHT: u32 = 64;
 
+/// The limit of the nesting of effects.
+pub const MOST_NESTING: u32 = 16;
+
 /// Whether a name stands there.
 pub fn begins_name(tokens: &[Token], place: usize) -> bool
     ensures { result ≡ has (name_code ∷ []) (code_at tokens.now place) }
@@ -84,6 +87,13 @@ pub fn begins_type(tokens: &[Token], place: usize) -> bool
         || is(tokens, place, INTEGER)
         || is(tokens, place, LEVEL)
         || begins_name(tokens, place)
+}
+
+/// Whether a function begins with the token.
+pub fn begins_function(tokens: &[Token], place: usize) -> bool
+    ensures { result ≡ has (word_vfun ∷ word_ofun ∷ word_ovfun ∷ []) (code_at tokens.now place) }
+{
+    is(tokens, place, VFUN) || is(tokens, place, OFUN) || is(tokens, place, OVFUN)
 }
 
 /// The place behind this token, which has to stand there.

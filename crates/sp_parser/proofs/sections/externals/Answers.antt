@@ -6,22 +6,22 @@ use Rattle.sp_grammar.proofs.Within.{none_yet, and_one, reads_all}
 use Rattle.sp_expression.specs.Grammar.{at}
 use Rattle.sp_parser.specs.Contract.{within}
 use Rattle.sp_parser.proofs.Forms.{external_form}
-use Rattle.sp_parser.proofs.Lifts.{fails_by, rest}
-use Rattle.sp_parser.proofs.Lists.{section_absent, on_section, item_of, then_passes}
+use Rattle.sp_parser.proofs.Lifts.{fails_by, reads_as, rest}
+use Rattle.sp_parser.proofs.Lists.{section_absent, on_section, item_of, many_as, then_passes}
 use Rattle.sp_parser.proofs.Opens.{opens_external}
 use Rattle.sp_parser.proofs.sections.externals.Goals as goal
 
 pub returns-then-not-is-clause-reads : goal.returns-then-not-is-clause-reads
 returns-then-not-is-clause-reads c =
     let ts = c.args.tokens.now in
-    rw (c.new.ensures, c.new-items.ensures.items) (section_absent ts word_external_refs 16 (external_form ts) refl refl c.args.start (λ y. let z : false ≡ true = c.if-not-is.ensures.same.1 y in cc))
+    reads_as (c.new.ensures ∙ c.new-items.ensures.items) (section_absent ts word_external_refs 16 (external_form ts) refl refl c.args.start (λ y. let z : false ≡ true = c.if-not-is.ensures.same.1 y in cc))
 
 pub loop-alloc-init : goal.loop-alloc-init
 loop-alloc-init c =
     let ts = c.args.tokens.now in
     let w = c.if-not-is.ensures.within refl in
     record {
-      many = rw c.new-items.ensures.items (none_yet (at ts) (external_form ts) refl refl (within 16) (c.args.start + 1));
+      many = many_as c.new-items.ensures.items (none_yet (at ts) (external_form ts) refl refl (within 16) (c.args.start + 1));
       moves = omega arith;
       within = omega arith;
     }
@@ -42,7 +42,7 @@ loop-alloc-preserved c =
     let m = l.invariant.moves in
     let n = c.in_ok-item.ensures.moves in
     record {
-      many = rw c.in_ok-push.ensures.items (and_one (at ts) (external_form ts) refl refl (within 16) l.invariant.many c.in_ok-item.ensures.reads);
+      many = many_as c.in_ok-push.ensures.items (and_one (at ts) (external_form ts) refl refl (within 16) l.invariant.many c.in_ok-item.ensures.reads);
       moves = omega arith;
       within = c.in_ok-item.ensures.within;
     }
@@ -51,6 +51,6 @@ pub returns-clause-reads : goal.returns-clause-reads
 returns-clause-reads c =
     let ts = c.args.tokens.now in
     let l = c.loop-alloc in
-    rw c.new-2.ensures
+    reads_as c.new-2.ensures
     ((on_section ts word_external_refs 16 (external_form ts) refl refl c.args.start (c.args.start + 1) (omega arith) (c.if-not-is.ensures.same.0 refl)).reads l.items.items l.next
     (reads_all (at ts) (external_form ts) refl refl (within 16) l.invariant.many (λ y. let z : false ≡ true = c.loop-alloc-test.ensures.same.1 (only word_from _ y) in cc)))

@@ -1,0 +1,16 @@
+use Rattle.std.proofs.Common.{◌-◌, ◌≤◌, refl, length}
+use Rattle.sp_grammar.proofs.Within.{ManyWithin}
+use Rattle.sp_expression.specs.Grammar.{at}
+use Rattle.sp_parser.specs.Contract.{within}
+use Rattle.sp_parser.proofs.Forms.{exception_form}
+use Rattle.sp_parser.proofs.functions.exception_list.Given as goal
+
+abbrev pub invariant-loop-alloc : goal.invariant-loop-alloc
+invariant-loop-alloc l = record {
+  many : ManyWithin (at l.tokens) (exception_form l.tokens) refl refl (within 16) l.items.items l.start l.next;
+  moves : l.start ≤ l.next;
+  within : l.next ≤ length l.tokens;
+}
+
+abbrev pub decreases-loop-alloc : goal.decreases-loop-alloc
+decreases-loop-alloc l = length l.tokens - l.next

@@ -31,7 +31,7 @@ room_above b l h w = let x = w.height in omega arith
 
 module _ (at : ℕ → ℕ) {V : Type 0} (f : Form at V) where
   -- two readings within different budgets
-  mix : (l k : Limits) (v : V) (i j m : ℕ) → (f.form l).whole v i j → Prefix (f.form k) i m → j < m → IsTrue (has f.more (at j))
+  pub mix : (l k : Limits) (v : V) (i j m : ℕ) → (f.form l).whole v i j → Prefix (f.form k) i m → j < m → IsTrue (has f.more (at j))
   mix l k v i j m w (inl p) h = (f.fine (sum l k)).goes_on_part v i j m ((f.grows l (sum l k) (below_left l k)).whole v i j w) ((f.grows k (sum l k) (below_right l k)).part i m p) h
   mix l k v i j m w (inr q) h = (f.fine (sum l k)).goes_on v q.0 i j m ((f.grows l (sum l k) (below_left l k)).whole v i j w) ((f.grows k (sum l k) (below_right l k)).whole q.0 i m q.1) h
 

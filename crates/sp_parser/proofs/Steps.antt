@@ -14,12 +14,12 @@ use Rattle.sp_tree.specs.declared.module.TypeDecl.{TypeDecl}
 use Rattle.sp_tree.specs.declared.module.Module.{Module}
 use Rattle.sp_grammar.specs.Lang.{seq}
 use Rattle.sp_grammar.specs.Within.{ReadsWithin}
-use Rattle.sp_grammar.specs.Codes.{word_from, word_is, word_vfun, word_ofun, word_ovfun, word_effects, word_if, word_then, word_else, word_end_if, word_forall, word_end_forall, semicolon, colon, arrow}
+use Rattle.sp_grammar.specs.Codes.{word_module, word_end_module, word_from, word_is, word_vfun, word_ofun, word_ovfun, word_effects, word_if, word_then, word_else, word_end_if, word_forall, word_end_forall, semicolon, colon, arrow}
 use Rattle.sp_grammar.proofs.Stands.{Stands, alone, in_made, behind_it}
 use Rattle.sp_expression.specs.Grammar.{at}
 use Rattle.sp_parser.specs.Contract.{within}
-use Rattle.sp_parser.specs.Modules.{Named, typed_header, type_decl, ended, external, Marks, value_function, operation, value_operation, if_effect, forall_effect}
-use Rattle.sp_parser.proofs.Forms.{word_form, ident_form, type_form, expr_form, names_form, formals_form, named_form, header_form, returned_form, members_form, members_end, colon_end, type_decl_form, parameter_form, external_names, external_colon, external_end, external_form, statement_form, statement_behind_form, definition_form, exception_form, maybe_exceptions_form, marks_form, value_body_form, bound_form, if_close, no_effects, else_end, yes_effects, then_end, condition_end, if_form, forall_close, below_end, bound_colon, bound_end, forall_form, effects_form, effects, effects_part, operation_body_form, value_end, value_semicolon, value_type, value_name, value_function_form, operation_semicolon, operation_name, operation_form, result_end, result_type, result_name, value_operation_form}
+use Rattle.sp_parser.specs.Modules.{Named, typed_header, type_decl, ended, external, Marks, value_function, operation, value_operation, module_of, if_effect, forall_effect}
+use Rattle.sp_parser.proofs.Forms.{word_form, ident_form, type_form, expr_form, names_form, formals_form, named_form, header_form, returned_form, members_form, members_end, colon_end, type_decl_form, parameter_form, external_names, external_colon, external_end, external_form, statement_form, statement_behind_form, definition_form, exception_form, maybe_exceptions_form, marks_form, value_body_form, bound_form, if_close, no_effects, else_end, yes_effects, then_end, condition_end, if_form, forall_close, below_end, bound_colon, bound_end, forall_form, effects_form, effects, effects_part, operation_body_form, value_end, value_semicolon, value_type, value_name, value_function_form, operation_semicolon, operation_name, operation_form, result_end, result_type, result_name, value_operation_form, types_form, parameters_form, definitions_form, externals_form, assertions_form, functions_form, functions_end, assertions_end, externals_end, definitions_end, parameters_end, types_end, module_name, module_form}
 use Rattle.sp_parser.proofs.Lists.{second}
 
 module _ (ts : List Token) (n : ℕ) where
@@ -157,6 +157,33 @@ module _ (ts : List Token) (n : ℕ) where
 
   pub value_operation_5 : {i : ℕ} {k1 : ℕ} {v2 : Named} {k2 : ℕ} {v3 : TypeTree} {k3 : ℕ} {v4 : Ident} {k4 : ℕ} {k5 : ℕ} → ReadsWithin (within n) (word_form ts word_ovfun).form tt i k1 → ReadsWithin (within n) (named_form ts).form v2 k1 k2 → ReadsWithin (within n) (returned_form ts).form v3 k2 k3 → ReadsWithin (within n) (ident_form ts).form v4 k3 k4 → ReadsWithin (within n) (word_form ts semicolon).form tt k4 k5 → Stands (within n) (operation_body_form ts).form k5 (value_operation_form ts).form i (λ w j. value_operation (tt, (v2, (v3, (v4, (tt, w))))) i j)
   value_operation_5 R1 R2 R3 R4 R5 = behind_it (at ts) (word_form ts semicolon) (operation_body_form ts) refl (value_operation_4 R1 R2 R3 R4) R5
+
+  pub module_0 : (i : ℕ) → Stands (within n) (λ l. seq ((word_form ts word_module).form l) ((module_name ts).form l)) i (module_form ts).form i (λ w j. module_of w i j)
+  module_0 i = in_made module_of _ (alone (within n) (module_form ts).form i)
+
+  pub module_1 : {i : ℕ} {k1 : ℕ} → ReadsWithin (within n) (word_form ts word_module).form tt i k1 → Stands (within n) (module_name ts).form k1 (module_form ts).form i (λ w j. module_of (tt, w) i j)
+  module_1 {i} R1 = behind_it (at ts) (word_form ts word_module) (module_name ts) refl (module_0 i) R1
+
+  pub module_2 : {i : ℕ} {k1 : ℕ} {v2 : Ident} {k2 : ℕ} → ReadsWithin (within n) (word_form ts word_module).form tt i k1 → ReadsWithin (within n) (ident_form ts).form v2 k1 k2 → Stands (within n) (types_end ts).form k2 (module_form ts).form i (λ w j. module_of (tt, (v2, w)) i j)
+  module_2 R1 R2 = behind_it (at ts) (ident_form ts) (types_end ts) refl (module_1 R1) R2
+
+  pub module_3 : {i : ℕ} {k1 : ℕ} {v2 : Ident} {k2 : ℕ} {v3 : List TypeDecl} {k3 : ℕ} → ReadsWithin (within n) (word_form ts word_module).form tt i k1 → ReadsWithin (within n) (ident_form ts).form v2 k1 k2 → ReadsWithin (within n) (types_form ts).form v3 k2 k3 → Stands (within n) (parameters_end ts).form k3 (module_form ts).form i (λ w j. module_of (tt, (v2, (v3, w))) i j)
+  module_3 R1 R2 R3 = behind_it (at ts) (types_form ts) (parameters_end ts) refl (module_2 R1 R2) R3
+
+  pub module_4 : {i : ℕ} {k1 : ℕ} {v2 : Ident} {k2 : ℕ} {v3 : List TypeDecl} {k3 : ℕ} {v4 : List Header} {k4 : ℕ} → ReadsWithin (within n) (word_form ts word_module).form tt i k1 → ReadsWithin (within n) (ident_form ts).form v2 k1 k2 → ReadsWithin (within n) (types_form ts).form v3 k2 k3 → ReadsWithin (within n) (parameters_form ts).form v4 k3 k4 → Stands (within n) (definitions_end ts).form k4 (module_form ts).form i (λ w j. module_of (tt, (v2, (v3, (v4, w)))) i j)
+  module_4 R1 R2 R3 R4 = behind_it (at ts) (parameters_form ts) (definitions_end ts) refl (module_3 R1 R2 R3) R4
+
+  pub module_5 : {i : ℕ} {k1 : ℕ} {v2 : Ident} {k2 : ℕ} {v3 : List TypeDecl} {k3 : ℕ} {v4 : List Header} {k4 : ℕ} {v5 : List (Header × ExprTree)} {k5 : ℕ} → ReadsWithin (within n) (word_form ts word_module).form tt i k1 → ReadsWithin (within n) (ident_form ts).form v2 k1 k2 → ReadsWithin (within n) (types_form ts).form v3 k2 k3 → ReadsWithin (within n) (parameters_form ts).form v4 k3 k4 → ReadsWithin (within n) (definitions_form ts).form v5 k4 k5 → Stands (within n) (externals_end ts).form k5 (module_form ts).form i (λ w j. module_of (tt, (v2, (v3, (v4, (v5, w))))) i j)
+  module_5 R1 R2 R3 R4 R5 = behind_it (at ts) (definitions_form ts) (externals_end ts) refl (module_4 R1 R2 R3 R4) R5
+
+  pub module_6 : {i : ℕ} {k1 : ℕ} {v2 : Ident} {k2 : ℕ} {v3 : List TypeDecl} {k3 : ℕ} {v4 : List Header} {k4 : ℕ} {v5 : List (Header × ExprTree)} {k5 : ℕ} {v6 : List (Ident × List Ident)} {k6 : ℕ} → ReadsWithin (within n) (word_form ts word_module).form tt i k1 → ReadsWithin (within n) (ident_form ts).form v2 k1 k2 → ReadsWithin (within n) (types_form ts).form v3 k2 k3 → ReadsWithin (within n) (parameters_form ts).form v4 k3 k4 → ReadsWithin (within n) (definitions_form ts).form v5 k4 k5 → ReadsWithin (within n) (externals_form ts).form v6 k5 k6 → Stands (within n) (assertions_end ts).form k6 (module_form ts).form i (λ w j. module_of (tt, (v2, (v3, (v4, (v5, (v6, w)))))) i j)
+  module_6 R1 R2 R3 R4 R5 R6 = behind_it (at ts) (externals_form ts) (assertions_end ts) refl (module_5 R1 R2 R3 R4 R5) R6
+
+  pub module_7 : {i : ℕ} {k1 : ℕ} {v2 : Ident} {k2 : ℕ} {v3 : List TypeDecl} {k3 : ℕ} {v4 : List Header} {k4 : ℕ} {v5 : List (Header × ExprTree)} {k5 : ℕ} {v6 : List (Ident × List Ident)} {k6 : ℕ} {v7 : List ExprTree} {k7 : ℕ} → ReadsWithin (within n) (word_form ts word_module).form tt i k1 → ReadsWithin (within n) (ident_form ts).form v2 k1 k2 → ReadsWithin (within n) (types_form ts).form v3 k2 k3 → ReadsWithin (within n) (parameters_form ts).form v4 k3 k4 → ReadsWithin (within n) (definitions_form ts).form v5 k4 k5 → ReadsWithin (within n) (externals_form ts).form v6 k5 k6 → ReadsWithin (within n) (assertions_form ts).form v7 k6 k7 → Stands (within n) (functions_end ts).form k7 (module_form ts).form i (λ w j. module_of (tt, (v2, (v3, (v4, (v5, (v6, (v7, w))))))) i j)
+  module_7 R1 R2 R3 R4 R5 R6 R7 = behind_it (at ts) (assertions_form ts) (functions_end ts) refl (module_6 R1 R2 R3 R4 R5 R6) R7
+
+  pub module_8 : {i : ℕ} {k1 : ℕ} {v2 : Ident} {k2 : ℕ} {v3 : List TypeDecl} {k3 : ℕ} {v4 : List Header} {k4 : ℕ} {v5 : List (Header × ExprTree)} {k5 : ℕ} {v6 : List (Ident × List Ident)} {k6 : ℕ} {v7 : List ExprTree} {k7 : ℕ} {v8 : List FunDecl} {k8 : ℕ} → ReadsWithin (within n) (word_form ts word_module).form tt i k1 → ReadsWithin (within n) (ident_form ts).form v2 k1 k2 → ReadsWithin (within n) (types_form ts).form v3 k2 k3 → ReadsWithin (within n) (parameters_form ts).form v4 k3 k4 → ReadsWithin (within n) (definitions_form ts).form v5 k4 k5 → ReadsWithin (within n) (externals_form ts).form v6 k5 k6 → ReadsWithin (within n) (assertions_form ts).form v7 k6 k7 → ReadsWithin (within n) (functions_form ts).form v8 k7 k8 → Stands (within n) (word_form ts word_end_module).form k8 (module_form ts).form i (λ w j. module_of (tt, (v2, (v3, (v4, (v5, (v6, (v7, (v8, w)))))))) i j)
+  module_8 R1 R2 R3 R4 R5 R6 R7 R8 = behind_it (at ts) (functions_form ts) (word_form ts word_end_module) refl (module_7 R1 R2 R3 R4 R5 R6 R7) R8
 
   pub if_0 : (i : ℕ) → Stands (within n) (λ l. seq ((word_form ts word_if).form l) ((condition_end ts (effects ts)).form l)) i (if_form ts (effects ts)).form i (λ w j. if_effect ts w i j)
   if_0 i = in_made (if_effect ts) _ (alone (within n) (if_form ts (effects ts)).form i)

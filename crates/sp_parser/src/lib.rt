@@ -3,6 +3,7 @@
 
 mod effect;
 mod functions;
+mod module;
 mod names;
 mod parse;
 mod part;

@@ -1,5 +1,5 @@
 -- A form with two budgets, its sets and its laws as one value, for each way to put forms together.
-use Rattle.std.proofs.Common.{◌≡◌, ℕ, suc, ◌+◌, ◌≤◌, inl, inr, Bool, true, false, ◌&&◌, IsTrue, List, [], ◌∷◌, ◌++◌, Option, Some, None, cond, refl, sym, subst, arith}
+use Rattle.std.proofs.Common.{◌≡◌, ℕ, ◌≤◌, inl, inr, Bool, true, false, ◌&&◌, IsTrue, List, [], ◌∷◌, ◌++◌, Option, None, cond, refl, subst, arith}
 use Rattle.sp_grammar.specs.Lang.{Lang, Prefix, seq, either, made, star, optional, token, not_from, without, apart, subset}
 use Rattle.sp_grammar.specs.Within.{Limits}
 use Rattle.sp_grammar.proofs.Laws.{Fine, fine_seq, fine_either, fine_made, fine_token, fine_star}

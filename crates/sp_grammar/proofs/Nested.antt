@@ -1,10 +1,10 @@
 -- A form that needs a budget of nesting of at least 1, and has one less to spend inside.
-use Rattle.std.proofs.Common.{◌≡◌, ℕ, suc, zero, ◌<◌, ◌≤◌, inl, inr, Bool, false, IsTrue, List, refl, sym, subst, arith}
-use Rattle.sp_grammar.specs.Lang.{Lang, Prefix, has}
-use Rattle.sp_grammar.specs.Within.{Limits, Budget, of_height, of_nesting, Keeps, Raises, ReadsWithin, StopsWithin, ExceedsWithin, Halt, stops, exceeds, RefusesWithin}
+use Rattle.std.proofs.Common.{◌≡◌, ℕ, suc, zero, ◌≤◌, inl, inr, false, refl, subst, arith}
+use Rattle.sp_grammar.specs.Lang.{Lang, Prefix}
+use Rattle.sp_grammar.specs.Within.{Limits, Budget, of_height, of_nesting, Keeps, Raises, ReadsWithin, ExceedsWithin, Halt, stops, exceeds, RefusesWithin}
 use Rattle.sp_grammar.proofs.Laws.{Fine}
 use Rattle.sp_grammar.proofs.Chain.{Sub}
-use Rattle.sp_grammar.proofs.Forms.{Below, Form, some_form}
+use Rattle.sp_grammar.proofs.Forms.{Form, some_form}
 
 abbrev pub limits : ℕ → ℕ → Limits
 limits h n = record { height = h; nesting = n }

@@ -1,10 +1,10 @@
 -- A reader inside a form with two budgets: what it has read of the form, and what each token after it means for the whole of it.
-use Rattle.std.proofs.Common.{◌≡◌, ℕ, suc, ◌≤◌, inl, inr, Bool, true, false, IsTrue, List, [], ◌∷◌, ◌++◌, Option, Some, None, refl, sym, subst}
-use Rattle.sp_grammar.specs.Lang.{Lang, Prefix, seq, either, made, star, optional, token, not_from, has, apart}
-use Rattle.sp_grammar.specs.Within.{Limits, ReadsWithin, StopsWithin, Halt, stops, exceeds, RefusesWithin}
+use Rattle.std.proofs.Common.{◌≡◌, ℕ, ◌≤◌, false, IsTrue}
+use Rattle.sp_grammar.specs.Lang.{Lang, seq, either, made, has, apart}
+use Rattle.sp_grammar.specs.Within.{Limits, ReadsWithin, StopsWithin, Halt, stops, RefusesWithin}
 use Rattle.sp_grammar.proofs.Chain.{sub_refl, swap_either}
-use Rattle.sp_grammar.proofs.Forms.{Form, seq_form, made_form, either_form, optional_form, star_form, token_form, not_from_form}
-use Rattle.sp_grammar.proofs.Within.{reads_both, refuses_second, refuses_first, reads_made, refuses_made, reads_chosen, refuses_chosen, reads_token, stops_token, none_begins, reads_given, reads_omitted, refuses_given, ManyWithin, none_yet, and_one, reads_all, refuses_one}
+use Rattle.sp_grammar.proofs.Forms.{Form}
+use Rattle.sp_grammar.proofs.Within.{reads_both, refuses_second, refuses_first, reads_made, refuses_made, reads_chosen, refuses_chosen, none_begins}
 
 -- G stands at k in L, which begins at i: what is read or refused of G from k on is read or refused of L. `value` gives what
 -- L stands for.

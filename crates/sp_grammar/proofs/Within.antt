@@ -1,11 +1,11 @@
 -- What is read and what is refused of a form with two budgets: of a sequence, a choice, a list, and a form that may be left out.
-use Rattle.std.proofs.Common.{◌≡◌, ℕ, suc, ◌+◌, ◌<◌, ◌≤◌, ◌⊎◌, inl, inr, Bool, true, false, IsTrue, List, [], ◌∷◌, ◌++◌, Option, Some, None, refl, sym, subst, arith}
+use Rattle.std.proofs.Common.{◌≡◌, ℕ, suc, ◌+◌, ◌<◌, ◌≤◌, ◌⊎◌, inl, inr, true, false, IsTrue, List, [], ◌∷◌, ◌++◌, Option, Some, None, refl, sym, subst, arith}
 use Rattle.std.proofs.lemmas.Bool.{cases_order, cases_lt}
 use Rattle.sp_grammar.specs.Lang.{Lang, Prefix, seq, either, made, all_whole, star, optional, maybe_whole, token, not_from, has, apart}
-use Rattle.sp_grammar.specs.Within.{Limits, Budget, of_height, of_nesting, Keeps, Raises, ReadsWithin, StopsWithin, ExceedsWithin, Halt, stops, exceeds, RefusesWithin}
+use Rattle.sp_grammar.specs.Within.{Limits, Budget, of_height, of_nesting, Keeps, Raises, ReadsWithin, StopsWithin, Halt, stops, exceeds, RefusesWithin}
 use Rattle.sp_grammar.proofs.Laws.{apart-has, le_span}
 use Rattle.sp_grammar.proofs.Chain.{Sub, sub_prefix}
-use Rattle.sp_grammar.proofs.Forms.{Below, Form, some_form, token_form, fixed_form}
+use Rattle.sp_grammar.proofs.Forms.{Below, Form, some_form}
 
 -- larger budgets
 

@@ -1,22 +1,20 @@
 -- The lines of functions in which a token decides what follows, as their readers go over them.
-use Rattle.std.proofs.Common.{◌≡◌, ℕ, suc, ◌≤◌, Bool, true, false, IsTrue, List, [], ◌∷◌, ◌++◌, Option, Some, None, inl, inr, refl, sym, subst, arith, lit≤}
+use Rattle.std.proofs.Common.{◌≡◌, ℕ, suc, true, false, List, [], ◌∷◌, Some, None, inl, inr, refl}
 use Rattle.sp_text.specs.declared.token.Token.{Token}
-use Rattle.sp_tree.specs.declared.names.Ident.{Ident}
 use Rattle.sp_tree.specs.declared.names.FormalTree.{FormalTree}
-use Rattle.sp_tree.specs.declared.expr.ExprTree.{ExprTree}
 use Rattle.sp_tree.specs.declared.module.Body.TheVariants as body
-use Rattle.sp_grammar.specs.Lang.{Lang, Prefix, seq, either, optional, has}
-use Rattle.sp_grammar.specs.Within.{Limits, ReadsWithin}
+use Rattle.sp_grammar.specs.Lang.{Prefix, seq}
+use Rattle.sp_grammar.specs.Within.{ReadsWithin}
 use Rattle.sp_grammar.specs.Codes.{word_derivation, word_exceptions, word_hidden, word_initially, word_ofun, word_ovfun, word_vfun, semicolon}
 use Rattle.sp_grammar.proofs.Inside.{only, other, none_of}
-use Rattle.sp_grammar.proofs.Forms.{Form, optional_form, behind_form, empty_left}
+use Rattle.sp_grammar.proofs.Forms.{behind_form}
 use Rattle.sp_grammar.proofs.Within.{reads_omitted, reads_given, refuses_given}
 use Rattle.sp_grammar.proofs.Stands.{Stands, alone, in_made, in_left, in_right, behind_it}
 use Rattle.sp_expression.specs.Grammar.{at}
 use Rattle.sp_parser.specs.Contract.{within}
-use Rattle.sp_parser.specs.Modules.{bound_list, Marks, marks_or, hidden_mark, exceptions_mark, initial_body, derived_body}
-use Rattle.sp_parser.proofs.Forms.{word_form, formal_form, second_bound, bound_form, exception_list, exceptions_form, hidden_form, excepted_form, mark_form, marks_form, statement_behind_form, initially_form, derivation_form, value_body_form, operations_form, value_function_form, operation_form, value_operation_form, function_form}
-use Rattle.sp_parser.proofs.Lifts.{Passes, first}
+use Rattle.sp_parser.specs.Modules.{bound_list, marks_or, hidden_mark, exceptions_mark, initial_body, derived_body}
+use Rattle.sp_parser.proofs.Forms.{word_form, formal_form, second_bound, bound_form, exception_list, hidden_form, excepted_form, mark_form, marks_form, statement_behind_form, initially_form, derivation_form, value_body_form, operations_form, value_function_form, operation_form, value_operation_form, function_form}
+use Rattle.sp_parser.proofs.Lifts.{Passes}
 use Rattle.sp_parser.proofs.Lists.{token_here, on_behind, begins_behind}
 
 module _ (ts : List Token) (n : ℕ) where

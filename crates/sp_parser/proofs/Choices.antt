@@ -1,22 +1,22 @@
 -- The lines in which a token decides what follows, as their readers go over them.
-use Rattle.std.proofs.Common.{◌≡◌, ℕ, suc, ◌<◌, ◌≤◌, Bool, true, false, IsTrue, List, [], ◌∷◌, Option, Some, None, inl, inr, refl, sym, subst, arith, lit≤}
+use Rattle.std.proofs.Common.{◌≡◌, ℕ, suc, ◌≤◌, true, false, IsTrue, List, [], ◌∷◌, Option, Some, None, inl, inr, refl, sym, subst, arith, lit≤}
 use Rattle.std.proofs.lemmas.Bool.{cases_lt}
 use Rattle.sp_text.specs.declared.token.Token.{Token}
 use Rattle.sp_tree.specs.declared.names.Ident.{Ident}
 use Rattle.sp_tree.specs.declared.names.FormalTree.{FormalTree}
-use Rattle.sp_grammar.specs.Lang.{Lang, Prefix, seq, either, optional, has, apart}
+use Rattle.sp_grammar.specs.Lang.{Prefix, seq, optional, has, apart}
 use Rattle.sp_grammar.specs.Within.{Limits, ReadsWithin, StopsWithin, Halt, stops, exceeds, RefusesWithin}
 use Rattle.sp_grammar.specs.Codes.{word_designator, left_parenthesis, right_parenthesis, left_brace, right_brace}
 use Rattle.sp_grammar.proofs.Inside.{only, other}
-use Rattle.sp_grammar.proofs.Forms.{Form, token_form, seq_form, optional_form, behind_form}
-use Rattle.sp_grammar.proofs.Within.{none_begins, reads_omitted, reads_given, refuses_given, refuses_first, begins, shorter, le_prefix, some}
-use Rattle.sp_grammar.proofs.Stands.{Stands, alone, in_made, in_left, in_right, behind_it, first_refused}
+use Rattle.sp_grammar.proofs.Forms.{Form, seq_form, optional_form, behind_form}
+use Rattle.sp_grammar.proofs.Within.{reads_omitted, reads_given, refuses_given, refuses_first, begins, shorter, le_prefix, some}
+use Rattle.sp_grammar.proofs.Stands.{Stands, alone, in_made, in_left, in_right, behind_it}
 use Rattle.sp_expression.specs.Contract.{type_first}
 use Rattle.sp_expression.specs.Grammar.{at}
 use Rattle.sp_parser.specs.Contract.{within}
 use Rattle.sp_parser.specs.Modules.{formals_list, no_members, some_members, list_or}
-use Rattle.sp_parser.proofs.Forms.{word_form, ident_form, names_form, some_formals_form, formals_end, formals_form, designator_form, braces_form, members_form}
-use Rattle.sp_parser.proofs.Lifts.{Passes, first, rest}
+use Rattle.sp_parser.proofs.Forms.{word_form, names_form, some_formals_form, formals_end, formals_form, designator_form, braces_form, members_form}
+use Rattle.sp_parser.proofs.Lifts.{Passes, first}
 use Rattle.sp_parser.proofs.Lists.{second, token_here}
 
 module _ (ts : List Token) (n : ℕ) where

@@ -1,5 +1,5 @@
 -- An effect by its first token, and the effects in it with one less to spend on nesting.
-use Rattle.std.proofs.Common.{◌≡◌, ℕ, suc, zero, ◌≤◌, Bool, true, false, IsTrue, List, [], ◌∷◌, inl, inr, refl, sym, subst, arith, lit≤}
+use Rattle.std.proofs.Common.{◌≡◌, ℕ, suc, zero, true, false, List, [], ◌∷◌, inr, refl, sym, subst, lit≤}
 use Rattle.sp_text.specs.declared.fault.Span.{Span}
 use Rattle.sp_text.specs.declared.token.Token.{Token}
 use Rattle.sp_tree.specs.declared.names.FormalTree.{FormalTree}
@@ -8,20 +8,16 @@ use Rattle.sp_text.specs.declared.fault.TextFault.{TextFault}
 use Rattle.sp_text.specs.declared.fault.TextFault.TheVariants as fault
 use Rattle.sp_tree.specs.declared.effect.EffectTree.{EffectTree}
 use Rattle.sp_tree.specs.declared.effect.EffectTree.TheVariants as effect
-use Rattle.sp_grammar.specs.Lang.{Lang, Prefix, has}
-use Rattle.sp_grammar.specs.Within.{Limits, of_nesting, ReadsWithin, ExceedsWithin, Halt, stops, exceeds, RefusesWithin}
+use Rattle.sp_grammar.specs.Within.{of_nesting, ReadsWithin, ExceedsWithin, Halt, stops, exceeds, RefusesWithin}
 use Rattle.sp_grammar.specs.Codes.{word_forall, word_if}
-use Rattle.sp_grammar.proofs.Laws.{apart-has}
 use Rattle.sp_grammar.proofs.Inside.{only, other, none_of}
-use Rattle.sp_grammar.proofs.Forms.{Form}
 use Rattle.sp_grammar.proofs.Within.{le_prefix, reads_same, refuses_same, reads_not_from, refuses_not_from}
-use Rattle.sp_grammar.proofs.Nested.{limits, reads_nested, refuses_nested, too_deep}
-use Rattle.sp_grammar.proofs.Stands.{Stands, alone, in_made, in_left, in_right}
-use Rattle.sp_expression.specs.Contract.{expression_first}
+use Rattle.sp_grammar.proofs.Nested.{reads_nested, refuses_nested, too_deep}
+use Rattle.sp_grammar.proofs.Stands.{Stands, in_made, in_left, in_right}
 use Rattle.sp_expression.specs.Grammar.{at}
 use Rattle.sp_parser.specs.Contract.{within, FailsWithin}
 use Rattle.sp_parser.specs.Modules.{plain_effect, if_effect, forall_effect}
-use Rattle.sp_parser.proofs.Forms.{word_form, statement_form, plain_statement_form, plain_form, if_form, forall_form, condition_end, bound_end, effects, effect_form, nested_if, nested_forall, not_if, any_effect, if_begins, forall_begins, effect_out, effect_back}
+use Rattle.sp_parser.proofs.Forms.{word_form, statement_form, plain_form, if_form, forall_form, condition_end, bound_end, effects, effect_form, nested_if, nested_forall, not_if, any_effect, if_begins, forall_begins, effect_out, effect_back}
 use Rattle.sp_parser.proofs.Opens.{open_line}
 
 pub same_if : {a b : Span} {e : ExprTree} {us vs xs ys : List EffectTree} → a ≡ b → us ≡ vs → xs ≡ ys → effect.If a e us xs ≡ effect.If b e vs ys

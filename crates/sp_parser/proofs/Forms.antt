@@ -1,5 +1,5 @@
 -- In each line of the grammar of modules one token ahead decides, and larger budgets read no less.
-use Rattle.std.proofs.Common.{◌≡◌, ℕ, suc, zero, ◌≤◌, inl, inr, Bool, true, false, IsTrue, List, [], ◌∷◌, ◌++◌, Option, Some, None, refl, sym, ap, subst, arith}
+use Rattle.std.proofs.Common.{◌≡◌, ℕ, suc, zero, ◌≤◌, inl, inr, true, false, IsTrue, List, [], ◌∷◌, Option, refl, subst, arith}
 use Rattle.sp_text.specs.declared.token.Token.{Token}
 use Rattle.sp_tree.specs.declared.names.Ident.{Ident}
 use Rattle.sp_tree.specs.declared.names.TypeTree.{TypeTree}
@@ -11,19 +11,19 @@ use Rattle.sp_tree.specs.declared.module.Body.{Body}
 use Rattle.sp_tree.specs.declared.module.FunDecl.{FunDecl}
 use Rattle.sp_tree.specs.declared.module.TypeDecl.{TypeDecl}
 use Rattle.sp_tree.specs.declared.module.Module.{Module}
-use Rattle.sp_grammar.specs.Lang.{Lang, Prefix, seq, either, made, star, optional, token, behind, not_from, apart}
+use Rattle.sp_grammar.specs.Lang.{Lang, Prefix, star, apart}
 use Rattle.sp_grammar.specs.Within.{Limits}
-use Rattle.sp_grammar.specs.Codes.{name_code, word_boolean, word_integer, word_level, word_module, word_end_module, word_types, word_parameters, word_definitions, word_external_refs, word_assertions, word_functions, word_designator, word_from, word_is, word_vfun, word_ofun, word_ovfun, word_hidden, word_exceptions, word_initially, word_derivation, word_effects, word_if, word_then, word_else, word_end_if, word_forall, word_end_forall, left_parenthesis, right_parenthesis, left_brace, right_brace, comma, semicolon, colon, arrow}
+use Rattle.sp_grammar.specs.Codes.{name_code, word_module, word_end_module, word_types, word_parameters, word_definitions, word_external_refs, word_assertions, word_functions, word_designator, word_from, word_is, word_vfun, word_ofun, word_ovfun, word_hidden, word_exceptions, word_initially, word_derivation, word_effects, word_if, word_then, word_else, word_end_if, word_forall, word_end_forall, left_parenthesis, right_parenthesis, left_brace, right_brace, comma, semicolon, colon, arrow}
 use Rattle.sp_grammar.proofs.Laws.{Fine, fine_star}
 use Rattle.sp_grammar.proofs.Chain.{Sub, sub_refl, sub_seq, sub_either, sub_made}
 use Rattle.sp_grammar.proofs.Lists.{sub_star, fine_more}
 use Rattle.sp_grammar.proofs.Nested.{limits, nested_form}
-use Rattle.sp_grammar.proofs.Forms.{Below, Form, fixed_form, token_form, seq_form, made_form, either_form, optional_form, star_form, behind_form, not_from_form, wider_form, height_form, sub_not_from}
+use Rattle.sp_grammar.proofs.Forms.{Below, Form, fixed_form, token_form, seq_form, made_form, either_form, optional_form, star_form, behind_form, not_from_form, height_form}
 use Rattle.sp_expression.specs.Contract.{type_first, expression_first}
 use Rattle.sp_expression.specs.Grammar.{at, ident, type_line, formal_line, expression}
-use Rattle.sp_expression.proofs.Laws.{fine_ident, type_rule, formal_rule, exprs, expr_rule, expression_more}
+use Rattle.sp_expression.proofs.Laws.{fine_ident, type_rule, formal_rule, exprs, expr_rule}
 use Rattle.sp_expression.proofs.Steps.{empty_expr}
-use Rattle.sp_parser.specs.Modules.{one_or_more, formals_list, typed_header, no_members, some_members, type_decl, ended, external, given_list, Named, Operation, Marks, hidden_mark, exceptions_mark, marks_or, initial_body, derived_body, value_function, operation, value_operation, plain_effect, module_of, if_effect, bound_list, forall_effect, plain_line, if_effect_line, forall_effect_line, bound_line, effect_line}
+use Rattle.sp_parser.specs.Modules.{one_or_more, formals_list, typed_header, no_members, some_members, type_decl, ended, external, given_list, Named, Operation, Marks, hidden_mark, exceptions_mark, marks_or, initial_body, derived_body, value_function, operation, value_operation, plain_effect, module_of, if_effect, bound_list, forall_effect, plain_line, if_effect_line, forall_effect_line, effect_line}
 
 module _ (ts : List Token) where
   abbrev pub A : ℕ → ℕ

@@ -1,17 +1,16 @@
 -- What the readers of tokens and of expressions find, as what is found within two budgets; and a fault of a part as one of the whole.
-use Rattle.std.proofs.Common.{◌≡◌, ℕ, suc, ◌+◌, ◌<◌, ◌≤◌, inl, inr, IsTrue, List, Result, Ok, Err, refl, sym, subst, arith}
-use Rattle.std.proofs.lemmas.Bool.{cases_lt}
+use Rattle.std.proofs.Common.{◌≡◌, ℕ, suc, ◌+◌, ◌≤◌, IsTrue, List, Result, Ok, Err, refl, sym, subst, arith}
 use Rattle.sp_text.specs.declared.token.Token.{Token}
 use Rattle.sp_text.specs.declared.fault.TextFault.{TextFault}
 use Rattle.sp_text.specs.declared.fault.TextFault.TheVariants as fault
 use Rattle.sp_tree.specs.declared.expr.ExprTree.{ExprTree}
-use Rattle.sp_grammar.specs.Lang.{Lang, Prefix, seq, apart, Measures, Stops, Exceeds}
-use Rattle.sp_grammar.specs.Within.{Limits, of_height, of_nesting, ReadsWithin, StopsWithin, ExceedsWithin, Halt, stops, exceeds, RefusesWithin}
+use Rattle.sp_grammar.specs.Lang.{Lang, Prefix, seq, apart, Measures}
+use Rattle.sp_grammar.specs.Within.{Limits, of_height, ReadsWithin, Halt, stops, exceeds, RefusesWithin}
 use Rattle.sp_grammar.proofs.Chain.{Sub, sub_prefix, grow_to}
 use Rattle.sp_grammar.proofs.Forms.{Form}
 use Rattle.sp_grammar.proofs.Stands.{Stands, first_refused}
 use Rattle.sp_expression.specs.Contract.{Fails}
-use Rattle.sp_expression.specs.Grammar.{at, ident, type_line, expression}
+use Rattle.sp_expression.specs.Grammar.{at, expression}
 use Rattle.sp_expression.proofs.Laws.{grows}
 use Rattle.sp_parser.specs.Contract.{within, fixed, FailsWithin, ParsesWithin}
 use Rattle.sp_parser.specs.declared.part.Part.{Part}

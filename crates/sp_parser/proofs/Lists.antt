@@ -1,23 +1,22 @@
 -- Lists with one token between two items, and the items behind a keyword, as their readers go over them.
-use Rattle.std.proofs.Common.{◌≡◌, ℕ, suc, ◌+◌, ◌<◌, ◌≤◌, inl, inr, Bool, true, false, IsTrue, List, [], ◌∷◌, ◌++◌, Option, Some, None, refl, sym, subst, arith, lit≤}
+use Rattle.std.proofs.Common.{◌≡◌, ℕ, suc, inl, inr, false, IsTrue, List, [], ◌∷◌, ◌++◌, Some, None, refl, sym, subst, lit≤}
 use Rattle.sp_text.specs.declared.token.Token.{Token}
-use Rattle.sp_text.specs.declared.fault.TextFault.{TextFault}
-use Rattle.sp_grammar.specs.Lang.{Lang, Prefix, seq, star, has, apart}
+use Rattle.sp_grammar.specs.Lang.{Lang, Prefix, seq, apart}
 use Rattle.sp_grammar.specs.Within.{Limits, ReadsWithin}
 use Rattle.sp_grammar.proofs.Laws.{Fine}
 use Rattle.sp_grammar.proofs.Inside.{only}
 use Rattle.sp_grammar.proofs.Forms.{Form, fixed_form, token_form, seq_form, made_form, optional_form, star_form, behind_form}
 use Rattle.sp_grammar.proofs.Within.{ManyWithin, none_yet, and_one, reads_all, refuses_one, reads_token, reads_given, reads_omitted, refuses_given}
-use Rattle.sp_grammar.proofs.Stands.{Stands, alone, in_made, behind_it, first_refused}
+use Rattle.sp_grammar.proofs.Stands.{Stands, alone, in_made, behind_it}
 use Rattle.sp_grammar.specs.Codes.{comma, name_code, semicolon}
 use Rattle.sp_tree.specs.declared.names.Ident.{Ident}
 use Rattle.sp_tree.specs.declared.names.FormalTree.{FormalTree}
 use Rattle.sp_expression.specs.Contract.{type_first}
 use Rattle.sp_expression.specs.Grammar.{at, formal_line, ident}
 use Rattle.sp_expression.proofs.Laws.{fine_ident, formal_rule}
-use Rattle.sp_parser.specs.Contract.{within, FailsWithin}
+use Rattle.sp_parser.specs.Contract.{within}
 use Rattle.sp_parser.specs.Modules.{one_or_more, given_list}
-use Rattle.sp_parser.proofs.Lifts.{Passes, fails_by, rest, first}
+use Rattle.sp_parser.proofs.Lifts.{Passes, first}
 
 -- what stands behind a token
 abbrev pub second : {V : Type 0} → Unit {0} × V → ℕ → ℕ → V

@@ -1,10 +1,7 @@
 -- The token that an item of a list begins with is a prefix of the item.
-use Rattle.std.proofs.Common.{◌≡◌, ℕ, suc, zero, ◌≤◌, IsTrue, List, [], ◌∷◌, ◌++◌, Some, inl, inr, refl, sym, arith, lit≤}
+use Rattle.std.proofs.Common.{◌≡◌, ℕ, suc, zero, ◌≤◌, IsTrue, List, [], ◌∷◌, ◌++◌, inl, inr, refl, sym, arith, lit≤}
 use Rattle.sp_text.specs.declared.token.Token.{Token}
-use Rattle.sp_tree.specs.declared.names.Ident.{Ident}
-use Rattle.sp_tree.specs.declared.names.TypeTree.{TypeTree}
 use Rattle.sp_tree.specs.declared.names.TypeTree.TheVariants as ty
-use Rattle.sp_tree.specs.declared.effect.EffectTree.{EffectTree}
 use Rattle.sp_tree.specs.declared.effect.EffectTree.TheVariants as effect
 use Rattle.sp_grammar.specs.Lang.{Lang, Prefix, seq, either, made, has, without}
 use Rattle.sp_grammar.specs.Within.{Limits}

@@ -1,6 +1,6 @@
 -- What each step of a reader with its parts in a row means for the form that it reads: `f_k` says where the form f stands when
 -- k parts of it are read.
-use Rattle.std.proofs.Common.{◌≡◌, ℕ, Bool, List, Option, refl}
+use Rattle.std.proofs.Common.{ℕ, List, Option, refl}
 use Rattle.sp_text.specs.declared.token.Token.{Token}
 use Rattle.sp_tree.specs.declared.names.Ident.{Ident}
 use Rattle.sp_tree.specs.declared.names.TypeTree.{TypeTree}
@@ -8,10 +8,8 @@ use Rattle.sp_tree.specs.declared.names.FormalTree.{FormalTree}
 use Rattle.sp_tree.specs.declared.expr.ExprTree.{ExprTree}
 use Rattle.sp_tree.specs.declared.effect.EffectTree.{EffectTree}
 use Rattle.sp_tree.specs.declared.module.Header.{Header}
-use Rattle.sp_tree.specs.declared.module.Body.{Body}
 use Rattle.sp_tree.specs.declared.module.FunDecl.{FunDecl}
 use Rattle.sp_tree.specs.declared.module.TypeDecl.{TypeDecl}
-use Rattle.sp_tree.specs.declared.module.Module.{Module}
 use Rattle.sp_grammar.specs.Lang.{seq}
 use Rattle.sp_grammar.specs.Within.{ReadsWithin}
 use Rattle.sp_grammar.specs.Codes.{word_module, word_end_module, word_from, word_is, word_vfun, word_ofun, word_ovfun, word_effects, word_if, word_then, word_else, word_end_if, word_forall, word_end_forall, semicolon, colon, arrow}

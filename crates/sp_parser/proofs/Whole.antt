@@ -1,15 +1,15 @@
 -- What is read and refused of a form from the first token on, as what its texts are.
-use Rattle.std.proofs.Common.{◌≡◌, ℕ, suc, ◌+◌, ◌<◌, ◌≤◌, inl, inr, Bool, true, false, IsTrue, List, length, Option, None, Result, Ok, Err, slice_get, refl, sym, ◌∙◌, ap, subst, arith}
+use Rattle.std.proofs.Common.{◌≡◌, ℕ, suc, ◌<◌, ◌≤◌, inl, inr, true, false, List, length, Result, Ok, Err, refl, sym, ◌∙◌, ap, subst, arith}
 use Rattle.std.proofs.lemmas.Bool.{cases_lt}
 use Rattle.std.proofs.lemmas.Option.{slice_get_cases}
 use Rattle.sp_text.specs.declared.token.Token.{Token}
 use Rattle.sp_text.specs.declared.fault.TextFault.{TextFault}
 use Rattle.sp_text.specs.declared.fault.TextFault.TheVariants as fault
 use Rattle.sp_text.specs.declared.fault.Rule.TheVariants.{Unexpected}
-use Rattle.sp_grammar.specs.Lang.{Lang, Prefix, has}
-use Rattle.sp_grammar.specs.Codes.{code_at, code_or_end, place_of}
-use Rattle.sp_grammar.specs.Texts.{most, AnswersText, AnswersTextOnly, IsRead, IsUnread, IsFirstOff, RefusesText}
-use Rattle.sp_grammar.specs.Within.{Limits, of_height, of_nesting, Keeps, ReadsWithin}
+use Rattle.sp_grammar.specs.Lang.{Prefix, has}
+use Rattle.sp_grammar.specs.Codes.{code_at, place_of}
+use Rattle.sp_grammar.specs.Texts.{most, AnswersText, AnswersTextOnly, IsRead, IsFirstOff, RefusesText}
+use Rattle.sp_grammar.specs.Within.{Limits, ReadsWithin}
 use Rattle.sp_grammar.proofs.Forms.{Form}
 use Rattle.sp_grammar.proofs.Within.{mix, shorter, keeps_itself}
 use Rattle.sp_expression.specs.Grammar.{at}

@@ -1,4 +1,4 @@
-use Rattle.std.proofs.Common.{◌≡◌, ap, ◌∙◌, ◌-◌, ◌+◌, suc, true, false, [], ◌∷◌, ◌++◌, sym, refl, arith, lit≤}
+use Rattle.std.proofs.Common.{◌≡◌, ap, ◌∙◌, ◌-◌, suc, true, false, sym, refl, arith, lit≤}
 use Rattle.std.proofs.lemmas.Result.{err_from_is_err_and}
 use Rattle.sp_grammar.specs.Within.{of_nesting}
 use Rattle.sp_grammar.specs.Codes.{span_of, word_if, word_then, word_else, word_end_if, word_forall, word_end_forall, semicolon, colon}
@@ -203,4 +203,3 @@ forall_effect-returns-clause-reads t c =
     let n = c.args.nesting - 1 in
     let e : c.args.nesting ≡ suc n = (let q = c.if-nesting-lt1.false in omega arith) in
     reads_as (same_forall (c.span-word.ensures ∙ ap (span_of ts c.args.start) (omega arith)) c.from_vec-below.ensures) (forall_reads ts c.args.nesting n e c.requires.opens ((forall_5 ts n (c.in_ok-next.ensures.reads n) (c.in_ok-variables.ensures.reads n) (c.in_ok-next-2.ensures.reads n) c.in_ok-below.ensures.reads (c.in_ok-next-3.ensures.reads n)).reads tt _ (c.in_ok-next-4.ensures.reads n)))
-

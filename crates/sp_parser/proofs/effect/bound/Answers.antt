@@ -1,4 +1,4 @@
-use Rattle.std.proofs.Common.{◌≡◌, ◌+◌, suc, true, false, [], ◌∷◌, ◌++◌, ap, ◌∙◌, refl, arith, lit≤}
+use Rattle.std.proofs.Common.{◌≡◌, true, false, [], ◌∷◌, ◌++◌, ap, ◌∙◌, refl, arith, lit≤}
 use Rattle.std.proofs.lemmas.Result.{err_from_is_err_and}
 use Rattle.sp_expression.specs.Grammar.{at}
 use Rattle.sp_parser.proofs.Bodies.{bound_0, one_bound, two_bound, second_refused}
@@ -30,4 +30,3 @@ returns-clause-reads c =
     let e = c.in_ok-push.ensures.items ∙ ap (λ z. z ++ c.in_ok-first.first.tree ∷ []) c.new-variables.ensures.items in
     let d = c.in_ok-push-2.ensures.items ∙ ap (λ z. z ++ c.in_ok-second.second.tree ∷ []) e in
     rw (c.new-2.ensures, d) (λ n. two_bound ts n (c.in_ok-first.ensures.reads n) (omega arith) (c.if-not-is.ensures.same.0 refl) (c.in_ok-second.ensures.reads n))
-

@@ -23,4 +23,3 @@ pub returns-clause-reads : goal.returns-clause-reads
 returns-clause-reads c =
     let ts = c.args.tokens.now in
     rw c.new.ensures ((effects_line_1 ts 16 (c.in_ok-next.ensures.reads 16)).reads _ _ c.in_ok-list.ensures.reads)
-

@@ -1,4 +1,4 @@
-use Rattle.std.proofs.Common.{◌≡◌, ◌∙◌, suc, true, false, [], ◌∷◌, ◌++◌, sym, refl, arith}
+use Rattle.std.proofs.Common.{◌≡◌, ◌∙◌, true, false, sym, refl, arith}
 use Rattle.std.proofs.lemmas.Result.{err_from_is_err_and}
 use Rattle.sp_grammar.specs.Codes.{word_exceptions}
 use Rattle.sp_grammar.proofs.Within.{none_yet, and_one, reads_all}
@@ -43,4 +43,3 @@ pub returns-clause-reads : goal.returns-clause-reads
 returns-clause-reads c =
     let ts = c.args.tokens.now in
     rw c.new.ensures (reads_all (at ts) (exception_form ts) refl refl (within 16) c.loop-alloc.invariant.many (λ y. let z : false ≡ true = c.loop-alloc-test.ensures ∙ y in cc))
-

@@ -1,4 +1,4 @@
-use Rattle.std.proofs.Common.{◌≡◌, ◌+◌, suc, true, false, refl, arith}
+use Rattle.std.proofs.Common.{◌≡◌, ◌+◌, true, false, refl, arith}
 use Rattle.sp_grammar.specs.Codes.{word_exceptions}
 use Rattle.sp_parser.proofs.Forms.{exception_form}
 use Rattle.sp_parser.proofs.Lifts.{passed}
@@ -14,4 +14,3 @@ pub returns-clause-reads : goal.returns-clause-reads
 returns-clause-reads c =
     let ts = c.args.tokens.now in
     passed (on_section ts word_exceptions 16 (exception_form ts) refl refl c.args.start (c.args.start + 1) (omega arith) (c.if-not-is.ensures.same.0 refl)) ts c.args.end c.exception_list.result c.exception_list.ensures.reads
-

@@ -17,4 +17,3 @@ pub returns-clause-reads : goal.returns-clause-reads
 returns-clause-reads c =
     let ts = c.args.tokens.now in
     passed (on_value_operation ts 16 (λ y. let z : false ≡ true = c.if-is.ensures.same.1 y in cc) (λ y. let z : false ≡ true = c.if-is-2.ensures.same.1 y in cc)) ts c.args.end c.value_operation.result c.value_operation.ensures.reads
-

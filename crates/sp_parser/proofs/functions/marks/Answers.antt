@@ -1,4 +1,4 @@
-use Rattle.std.proofs.Common.{◌≡◌, ◌+◌, suc, true, false, refl, arith}
+use Rattle.std.proofs.Common.{◌≡◌, ◌+◌, true, false, refl, arith}
 use Rattle.std.proofs.lemmas.Result.{err_from_is_err_and}
 use Rattle.sp_parser.proofs.Bodies.{on_hidden, no_marks, on_exceptions}
 use Rattle.sp_parser.proofs.Lifts.{fails_by, rest}
@@ -30,4 +30,3 @@ pub returns-clause-reads : goal.returns-clause-reads
 returns-clause-reads c =
     let ts = c.args.tokens.now in
     (on_exceptions ts 16 c.args.start (c.args.start + 1) (omega arith) (c.if-not-is.ensures.same.0 refl)).reads _ _ c.in_ok-exceptions.ensures.reads
-

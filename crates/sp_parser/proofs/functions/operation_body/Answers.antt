@@ -1,7 +1,7 @@
 use Rattle.std.proofs.Common.{refl, lit≤}
 use Rattle.std.proofs.lemmas.Result.{err_from_is_err_and}
 use Rattle.sp_expression.specs.Grammar.{at}
-use Rattle.sp_parser.proofs.Forms.{maybe_exceptions_form, effects, effects_part}
+use Rattle.sp_parser.proofs.Forms.{maybe_exceptions_form, effects_part}
 use Rattle.sp_parser.proofs.Lifts.{fails_by, first, rest}
 use Rattle.sp_parser.proofs.Steps.{operation_body_0, operation_body_1}
 use Rattle.sp_parser.proofs.functions.operation_body.Goals as goal

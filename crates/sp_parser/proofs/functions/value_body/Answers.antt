@@ -25,4 +25,3 @@ pub returns-clause-reads : goal.returns-clause-reads
 returns-clause-reads c =
     let ts = c.args.tokens.now in
     (on_derivation ts 16 (λ y. let z : false ≡ true = c.if-is.ensures.same.1 y in cc)).reads _ _ c.in_ok-value-2.ensures.reads
-

@@ -1,4 +1,4 @@
-use Rattle.std.proofs.Common.{◌≡◌, ◌+◌, suc, true, false, refl, arith, lit≤}
+use Rattle.std.proofs.Common.{◌≡◌, true, false, refl, arith, lit≤}
 use Rattle.std.proofs.lemmas.Result.{err_from_is_err_and}
 use Rattle.sp_grammar.specs.Codes.{left_parenthesis}
 use Rattle.sp_expression.specs.Grammar.{at}

@@ -1,4 +1,4 @@
-use Rattle.std.proofs.Common.{◌≡◌, ◌≤◌, length, ◌∙◌, sym, refl, arith}
+use Rattle.std.proofs.Common.{refl, arith}
 use Rattle.std.proofs.lemmas.Result.{err_from_is_err_and}
 use Rattle.sp_parser.proofs.Forms.{module_form}
 use Rattle.sp_parser.proofs.Whole.{answers_fault, left_over, only_equal, only_this_fault, only_tree, read_whole, refused}
@@ -35,4 +35,3 @@ pub returns-clause-only : goal.returns-clause-only
 returns-clause-only c =
     let ts = c.args.tokens.now in
     only_tree ts (module_form ts) (read_whole ts (module_form ts) c.in_ok-module.ensures.reads (let a = c.in_ok-module.ensures.within in let b = c.if-module-tokens.false in omega arith))
-

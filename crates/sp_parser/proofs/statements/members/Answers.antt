@@ -1,4 +1,4 @@
-use Rattle.std.proofs.Common.{◌≡◌, ◌+◌, suc, true, false, refl, arith}
+use Rattle.std.proofs.Common.{◌≡◌, true, false, refl, arith}
 use Rattle.std.proofs.lemmas.Result.{err_from_is_err_and}
 use Rattle.sp_parser.proofs.Lifts.{fails_by, rest}
 use Rattle.sp_parser.proofs.Choices.{designator_reads, brace_first, brace_names, members_1}

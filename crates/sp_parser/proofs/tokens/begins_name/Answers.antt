@@ -1,4 +1,4 @@
-use Rattle.std.proofs.Common.{◌≡◌, ℕ, Bool, true, false, [], ◌∷◌, refl, sym}
+use Rattle.std.proofs.Common.{◌≡◌, ℕ, Bool, true, false, [], ◌∷◌, refl}
 use Rattle.sp_grammar.specs.Lang.{has}
 use Rattle.sp_grammar.specs.Codes.{name_code}
 use Rattle.sp_grammar.proofs.Inside.{only}

@@ -1,4 +1,4 @@
-use Rattle.std.proofs.Common.{◌≡◌, Option, IfNone, IsTrue, refl, subst, lit≤}
+use Rattle.std.proofs.Common.{Option, IfNone, IsTrue, refl, subst, lit≤}
 use Rattle.sp_tree.specs.declared.names.TypeTree.{TypeTree}
 use Rattle.sp_grammar.specs.Lang.{has}
 use Rattle.sp_grammar.proofs.Within.{none_begins}

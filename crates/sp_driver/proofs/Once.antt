@@ -1,15 +1,18 @@
 -- Words and files have at most one report: work in steps has one, where each step has one outcome.
 use Rattle.std.proofs.Common.{◌≡◌, ◌∙◌, ℕ, List, Option, Some, None, inl, inr, sym, subst, ap, length, arith}
 use Rattle.sp_text.specs.declared.token.TokenKind.{TokenKind}
-use Rattle.sp_lexer.proofs.Unique.{same_tokens}
+use Rattle.sp_text.specs.declared.fault.TextFault.{TextFault}
+use Rattle.sp_text.specs.declared.token.Token.{Token}
+use Rattle.sp_lexer.proofs.Unique.{no_fault_with_tokens, same_first_fault, same_tokens}
+use Rattle.sp_parser.specs.Modules.{module_line}
 use Rattle.sp_outside.specs.Files.{Files}
 use Rattle.sp_driver.specs.Lines.{words_line}
 use Rattle.sp_driver.specs.Report.{CommandReport, IsReport, ReportOf}
 use Rattle.sp_driver.specs.RunCommand.{AnsweredReport, JudgedReport, RunReport, WorkReport}
-use Rattle.sp_driver.specs.SmallTexts.{instance_spelling, interface_spelling, kinds, module_spelling, script_spelling}
+use Rattle.sp_driver.specs.SmallTexts.{instance_spelling, interface_spelling, kinds, script_spelling}
 use Rattle.sp_driver.specs.Steps.{Demand, LoadGives, LoadRefused, Says, Then}
 use Rattle.sp_driver.specs.System.{PartsRefused, SystemGives, SystemRefused}
-use Rattle.sp_driver.specs.Texts.{ReadGives, ReadRefused, Spells, TreeGiven, TreeRefused, instance_file, module_file}
+use Rattle.sp_driver.specs.Texts.{Form, HasFault, HaveFault, ReadGives, ReadRefused, SaysFault, Spell, Spells, TextRefused, TreeGiven, instance_file, instance_form, interface_form, module_file, module_form, script_form, small_form}
 use Rattle.sp_driver.specs.Words.{Command, command_of, run}
 use Rattle.sp_driver.specs.declared.read.Reading.{Reading}
 use Rattle.sp_driver.specs.declared.small.texts.SmallInstance.{SmallInstance}
@@ -19,6 +22,7 @@ use Rattle.sp_driver.specs.declared.small.texts.SmallScript.{SmallScript}
 use Rattle.sp_driver.specs.declared.status.Status.{Status}
 use Rattle.sp_driver.specs.declared.status.Status.TheVariants as status
 use Rattle.sp_driver.specs.declared.system.System.{System}
+use Rattle.sp_driver.proofs.Grammars.{refused_once, unread}
 use Rattle.sp_driver.proofs.SmallRuns.{printed_once}
 use Rattle.sp_driver.proofs.SmallTrees.{IsUnambiguous, instance_unambiguous, interface_unambiguous, module_unambiguous, script_unambiguous}
 
@@ -88,38 +92,83 @@ module _ (name : List ℕ) (files : Files) where
 
 -- ---- texts
 
-module _ {T : Type 0} (spelling : T → List TokenKind) (unambiguous : IsUnambiguous spelling) where
-  spells_once : (text : List ℕ) (x y : T) → Spells spelling text x → Spells spelling text y → x ≡ y
-  spells_once text x y p q = unambiguous x y (p.2 ∙ ap kinds (same_tokens text p.0 q.0 p.1 q.1) ∙ sym q.2)
+-- tokens have at most one fault as this form, none where they are of it, and spell at most one tree
+record IsExact {T : Type 0} (form : Form T) : Type 0 where
+  once : (ts : List Token) (end : ℕ) (f g : TextFault) → form.refuses ts end f → form.refuses ts end g → f ≡ g
+  apart : (ts : List Token) (end : ℕ) (f : TextFault) → form.refuses ts end f → form.reads ts → ⊥
+  unambiguous : IsUnambiguous form.spelling
 
-  abbrev reading : T → ℕ → Reading T
-  reading tree end = record { tree = tree; end = end }
+small_exact : {T : Type 0} (spelling : T → List TokenKind) → IsUnambiguous spelling → IsExact (small_form spelling)
+small_exact spelling unambiguous = record { once = λ ts end f g p q. absurd p; apart = λ ts end f p q. p; unambiguous = unambiguous }
 
-  given_once : (text : List ℕ) (x y : Reading T) → TreeGiven spelling text x → TreeGiven spelling text y → x ≡ y
-  given_once text x y p q = ap (λ tree. reading tree x.end) (spells_once text x.tree y.tree p.0 q.0) ∙ ap (reading y.tree) (p.1 ∙ sym q.1)
+module_exact : IsExact module_form
+module_exact = record {
+  once = λ ts end f g p q. refused_once (module_line ts) ts end f g p.0 q.0 p.1 q.1;
+  apart = λ ts end f p q. unread (module_line ts) ts end f p.0 p.1 q.0 q.1;
+  unambiguous = module_unambiguous;
+}
 
-  tree_settled : (name text : List ℕ) → IsSettled (TreeRefused spelling name text) (TreeGiven spelling text)
-  tree_settled name text = record {
-    refused_once = λ a b s t p q. says_once _ _ a b s t p.1 q.1;
-    gives_once = given_once text;
-    apart = λ a s x p q. p.0 x.tree q.0;
-  }
+module _ {T : Type 0} (form : Form T) (exact : IsExact form) where
+  have_once : (ts : List Token) (end : ℕ) (f g : TextFault) → HaveFault form ts end f → HaveFault form ts end g → f ≡ g
+  have_once ts end f g (inl p) (inl q) = exact.once ts end f g p q
+  have_once ts end f g (inl p) (inr q) = absurd (exact.apart ts end f p q.0.0)
+  have_once ts end f g (inr p) (inl q) = absurd (exact.apart ts end g q p.0.0)
+  have_once ts end f g (inr p) (inr q) = p.1 ∙ sym q.1
 
-  read_settled : (name : List ℕ) (files : Files) → IsSettled (ReadRefused spelling name files) (ReadGives spelling name files)
+  have_apart : (ts : List Token) (end : ℕ) (f : TextFault) (x : T) → HaveFault form ts end f → Spell form ts x → ⊥
+  have_apart ts end f x (inl p) q = exact.apart ts end f p q.0
+  have_apart ts end f x (inr p) q = p.0.1 x q.1
+
+  module _ (text : List ℕ) where
+    abbrev TokensHave : TextFault → List Token → Type 0
+    TokensHave f ts = HaveFault form ts (length text) f
+
+    fault_once : (f g : TextFault) → HasFault form text f → HasFault form text g → f ≡ g
+    fault_once f g (inl p) (inl q) = same_first_fault text f g p q
+    fault_once f g (inl p) (inr q) = absurd (no_fault_with_tokens text q.0 f q.1 p)
+    fault_once f g (inr p) (inl q) = absurd (no_fault_with_tokens text p.0 g p.1 q)
+    fault_once f g (inr p) (inr q) = have_once q.0 (length text) f g (subst (TokensHave f) (same_tokens text p.0 q.0 p.1 q.1) p.2) q.2
+
+    fault_apart : (f : TextFault) (x : T) → HasFault form text f → Spells form text x → ⊥
+    fault_apart f x (inl p) q = no_fault_with_tokens text q.0 f q.1 p
+    fault_apart f x (inr p) q = have_apart q.0 (length text) f x (subst (TokensHave f) (same_tokens text p.0 q.0 p.1 q.1) p.2) q.2
+
+    spells_once : (x y : T) → Spells form text x → Spells form text y → x ≡ y
+    spells_once x y p q = exact.unambiguous x y (p.2.1 ∙ ap kinds (same_tokens text p.0 q.0 p.1 q.1) ∙ sym q.2.1)
+
+    abbrev reading : T → ℕ → Reading T
+    reading tree end = record { tree = tree; end = end }
+
+    given_once : (x y : Reading T) → TreeGiven form text x → TreeGiven form text y → x ≡ y
+    given_once x y p q = ap (λ tree. reading tree x.end) (spells_once x.tree y.tree p.0 q.0) ∙ ap (reading y.tree) (p.1 ∙ sym q.1)
+
+    refused_text_once : (name : List ℕ) → IsOnce (TextRefused form name text)
+    refused_text_once name a b s t p q =
+        let same = fault_once p.0 q.0 p.1 q.1 in
+        says_once _ _ a b s t (subst (λ f. SaysFault name f a s) same p.2) q.2
+
+    text_settled : (name : List ℕ) → IsSettled (TextRefused form name text) (TreeGiven form text)
+    text_settled name = record {
+      refused_once = refused_text_once name;
+      gives_once = given_once;
+      apart = λ a s x p q. fault_apart p.0 x.tree p.1 q.0;
+    }
+
+  read_settled : (name : List ℕ) (files : Files) → IsSettled (ReadRefused form name files) (ReadGives form name files)
   read_settled name files =
-      then_settled (LoadRefused name files) (LoadGives name files) (TreeRefused spelling name) (load_settled name files) (TreeGiven spelling) (λ text given. tree_settled name text)
+      then_settled (LoadRefused name files) (LoadGives name files) (TextRefused form name) (load_settled name files) (TreeGiven form) (λ text given. text_settled text name)
 
 -- ---- systems
 
 module _ (files : Files) where
-  interface_settled : (name : List ℕ) → IsSettled (ReadRefused interface_spelling name files) (ReadGives interface_spelling name files)
-  interface_settled name = read_settled interface_spelling interface_unambiguous name files
+  interface_settled : (name : List ℕ) → IsSettled (ReadRefused interface_form name files) (ReadGives interface_form name files)
+  interface_settled name = read_settled interface_form (small_exact interface_spelling interface_unambiguous) name files
 
-  module_settled : (name : List ℕ) → IsSettled (ReadRefused module_spelling name files) (ReadGives module_spelling name files)
-  module_settled name = read_settled module_spelling module_unambiguous name files
+  module_settled : (name : List ℕ) → IsSettled (ReadRefused module_form name files) (ReadGives module_form name files)
+  module_settled name = read_settled module_form module_exact name files
 
-  instance_settled : (name : List ℕ) → IsSettled (ReadRefused instance_spelling name files) (ReadGives instance_spelling name files)
-  instance_settled name = read_settled instance_spelling instance_unambiguous name files
+  instance_settled : (name : List ℕ) → IsSettled (ReadRefused instance_form name files) (ReadGives instance_form name files)
+  instance_settled name = read_settled instance_form (small_exact instance_spelling instance_unambiguous) name files
 
   abbrev system : Reading SmallInterface → Reading SmallModule → Reading SmallInstance → System
   system i m s = record { interface = i; «module» = m; sample = s }
@@ -128,9 +177,9 @@ module _ (files : Files) where
   system_once name x y p q =
       let i = (interface_settled name).gives_once x.interface y.interface p.interface_read q.interface_read in
       let m = (module_settled (module_file y.interface.tree.module)).gives_once x.module y.module
-      (subst (λ (r : Reading SmallInterface). ReadGives module_spelling (module_file r.tree.module) files x.module) i p.parts_read.module_read) q.parts_read.module_read in
+      (subst (λ (r : Reading SmallInterface). ReadGives module_form (module_file r.tree.module) files x.module) i p.parts_read.module_read) q.parts_read.module_read in
       let s = (instance_settled (instance_file y.interface.tree.sample)).gives_once x.sample y.sample
-      (subst (λ (r : Reading SmallInterface). ReadGives instance_spelling (instance_file r.tree.sample) files x.sample) i p.parts_read.sample_read) q.parts_read.sample_read in
+      (subst (λ (r : Reading SmallInterface). ReadGives instance_form (instance_file r.tree.sample) files x.sample) i p.parts_read.sample_read) q.parts_read.sample_read in
       ap (λ r. system r x.module x.sample) i ∙ ap (λ r. system y.interface r x.sample) m ∙ ap (system y.interface y.module) s
 
   parts_apart : (a : List ℕ) (s : Status) (x : System) → PartsRefused x.interface.tree files a s → (name : List ℕ) → SystemGives name files x → ⊥
@@ -164,7 +213,7 @@ judged_once interface script x calls = demand_once _ _ _ (says_once _ _) (demand
 work_once : (interface instance script : List ℕ) (x : System) (files : Files) → IsOnce (WorkReport interface instance script x files)
 work_once interface instance script x files =
     then_once _ _ _ (instance_settled files instance) (λ _ _.
-    then_once _ _ _ (read_settled script_spelling script_unambiguous script files) (λ calls given. judged_once interface script x calls))
+    then_once _ _ _ (read_settled script_form (small_exact script_spelling script_unambiguous) script files) (λ calls given. judged_once interface script x calls))
 
 run_once : (interface instance script : List ℕ) (files : Files) → IsOnce (RunReport interface instance script files)
 run_once interface instance script files =

@@ -3,8 +3,9 @@
 use Rattle.std.specs.Prelude.{ℕ, List, Option, Some, None}
 use Rattle.sp_outside.specs.Files.{Files}
 use Rattle.sp_driver.specs.Lines.{words_line}
-use Rattle.sp_driver.specs.RunCommand.{RunComesTo, RunReport}
+use Rattle.sp_driver.specs.RunCommand.{RunComesTo, RunReport, RunUnsound}
 use Rattle.sp_driver.specs.Steps.{Says}
+use Rattle.sp_driver.specs.Texts.{TextFile}
 use Rattle.sp_driver.specs.Words.{Command, command_of, run}
 use Rattle.sp_driver.specs.declared.status.Status.{Status}
 use Rattle.sp_driver.specs.declared.status.Status.TheVariants as status
@@ -27,10 +28,19 @@ abbrev pub IsLoading : Option Command → Type 0
 IsLoading None = ⊥
 IsLoading (Some (run interface instance script)) = Unit {0}
 
--- the work of the words comes to the file of this name
-abbrev pub CommandComesTo : Option Command → Files → List ℕ → Type 0
-CommandComesTo None files name = ⊥
-CommandComesTo (Some (run interface instance script)) files name = RunComesTo interface instance script files name
+-- the work of the words comes to this file
+abbrev pub CommandComesTo : Option Command → Files → TextFile → Type 0
+CommandComesTo None files file = ⊥
+CommandComesTo (Some (run interface instance script)) files file = RunComesTo interface instance script files file
 
-abbrev pub ComesTo : List (List ℕ) → Files → List ℕ → Type 0
+abbrev pub ComesTo : List (List ℕ) → Files → TextFile → Type 0
 ComesTo words = CommandComesTo (command_of words)
+
+-- all files of a command are read, and one breaks a rule
+abbrev pub CommandUnsound : Option Command → Files → Type 0
+CommandUnsound None files = ⊥
+CommandUnsound (Some (run interface instance script)) files = RunUnsound interface instance script files
+
+-- and those of words that may be none
+abbrev pub IsUnsound : List (List ℕ) → Files → Type 0
+IsUnsound words = CommandUnsound (command_of words)

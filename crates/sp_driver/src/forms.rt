@@ -1,16 +1,21 @@
 //! The forms of the texts that `run` reads.
 
-ghost use Rattle.sp_driver.specs.SmallTexts.{instance_spelling, interface_spelling, module_spelling, script_spelling};
+ghost use Rattle.sp_driver.specs.Texts.{instance_form, interface_form, module_form, script_form};
 
 use crate::read::SmallText;
 use crate::small::fault::SmallFault;
 use crate::small::texts::{SmallInstance, SmallInterface, SmallModule, SmallScript};
 use crate::small::{read_instance, read_interface, read_module, read_script};
-use sp_text::Token;
+use sp_parser::parse_module;
+use sp_text::{TextFault, Token};
 use std::alloc::Global;
 
 impl SmallText for SmallInterface {
-    ghost spelling = { interface_spelling };
+    ghost form = { interface_form };
+
+    fn parse(_alloc: Global, _tokens: &[Token], _end: u32) -> Result<(), TextFault> {
+        Ok(())
+    }
 
     fn read(alloc: Global, tokens: &[Token]) -> Result<SmallInterface, SmallFault> {
         read_interface(alloc, tokens)
@@ -18,7 +23,12 @@ impl SmallText for SmallInterface {
 }
 
 impl SmallText for SmallModule {
-    ghost spelling = { module_spelling };
+    ghost form = { module_form };
+
+    fn parse(alloc: Global, tokens: &[Token], end: u32) -> Result<(), TextFault> {
+        let _tree = parse_module(alloc, tokens, end)?;
+        Ok(())
+    }
 
     fn read(alloc: Global, tokens: &[Token]) -> Result<SmallModule, SmallFault> {
         read_module(alloc, tokens)
@@ -26,7 +36,11 @@ impl SmallText for SmallModule {
 }
 
 impl SmallText for SmallInstance {
-    ghost spelling = { instance_spelling };
+    ghost form = { instance_form };
+
+    fn parse(_alloc: Global, _tokens: &[Token], _end: u32) -> Result<(), TextFault> {
+        Ok(())
+    }
 
     fn read(alloc: Global, tokens: &[Token]) -> Result<SmallInstance, SmallFault> {
         read_instance(alloc, tokens)
@@ -34,7 +48,11 @@ impl SmallText for SmallInstance {
 }
 
 impl SmallText for SmallScript {
-    ghost spelling = { script_spelling };
+    ghost form = { script_form };
+
+    fn parse(_alloc: Global, _tokens: &[Token], _end: u32) -> Result<(), TextFault> {
+        Ok(())
+    }
 
     fn read(alloc: Global, tokens: &[Token]) -> Result<SmallScript, SmallFault> {
         read_script(alloc, tokens)

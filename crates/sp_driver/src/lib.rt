@@ -2,6 +2,7 @@
 #![tactic(auto)]
 
 mod deliver;
+mod fault;
 mod forms;
 mod laws;
 mod lines;

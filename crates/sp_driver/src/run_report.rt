@@ -3,9 +3,8 @@ ghost use Rattle.sp_outside.specs.Causes.{Rose};
 ghost use Rattle.sp_driver.specs.Early.{IfReport, IsReadFault, Reports};
 ghost use Rattle.sp_driver.specs.RunCommand.{AnsweredReport, JudgedReport, RunReport, WorkReport};
 ghost use Rattle.sp_driver.specs.SmallRules.{IsSoundInterface, IsSoundScript};
-ghost use Rattle.sp_driver.specs.Texts.{UnbuiltText};
 
-use crate::lines::unbuilt_text;
+use crate::fault::{fault_report, unbuilt_fault};
 use crate::read::{Reading, load_tree};
 use crate::report::{Early, Report};
 use crate::small::texts::{SmallInstance, SmallScript};
@@ -70,22 +69,12 @@ fn judged_report(
 {
     let part = &system.module.tree;
     if !is_sound_interface(&system.interface.tree, part, &system.sample.tree) {
-        return unbuilt_report(alloc, interface, system.interface.end);
+        return fault_report(alloc, interface, unbuilt_fault(system.interface.end));
     }
     if !is_sound_script(part, &calls.tree) {
-        return unbuilt_report(alloc, script, calls.end);
+        return fault_report(alloc, script, unbuilt_fault(calls.end));
     }
     answered_report(alloc, system, &calls.tree)
-}
-
-// The report of a text whose reader isn't built yet.
-fn unbuilt_report(alloc: Global, name: &str, end: u32) -> Result<Report, Memory>
-    ensures { IfOk result (λ report. UnbuiltText name.now end report.bytes.items report.status) }
-{
-    Ok(Report {
-        bytes: unbuilt_text(alloc, name, end)?,
-        status: Status::Malformed,
-    })
 }
 
 // The report of texts that break no rule.

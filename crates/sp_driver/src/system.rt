@@ -70,8 +70,8 @@ fn load_named<T: SmallText, L: Library>(
     ending: &str,
 ) -> Result<Reading<T>, Early>
     requires { IsUtf8 name.now }
-    ensures gives { IfOk result (λ read. IfSome (L.told lib.old) (λ files. ReadGives T.spelling (name.now ++ ending.now) files read)) }
-    ensures refused { IfRefused result (Reports (L.told lib.old) (ReadRefused T.spelling (name.now ++ ending.now))) }
+    ensures gives { IfOk result (λ read. IfSome (L.told lib.old) (λ files. ReadGives T.form (name.now ++ ending.now) files read)) }
+    ensures refused { IfRefused result (Reports (L.told lib.old) (ReadRefused T.form (name.now ++ ending.now))) }
     ensures no_words { IfRefused result (λ report. report.status ≢ Status.Words) }
     ensures read_fault { IsReadFault result → Rose (L.faults lib.old) (L.faults lib.new) }
     ensures same { L.told lib.new ≡ L.told lib.old }

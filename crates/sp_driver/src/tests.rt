@@ -1,6 +1,6 @@
 use super::{Status, run};
 use sp_outside::{MemoryLibrary, MemorySink};
-use sp_text::Memory;
+use sp_text::{Memory, push_text};
 use std::alloc::Global;
 use std::test::Fail;
 
@@ -13,6 +13,12 @@ VFUN a() -> INTEGER; INITIALLY 1;
 VFUN b() -> INTEGER; INITIALLY 2;
 OFUN swap(); EFFECTS 'a() = b(); 'b() = a();
 END_MODULE";
+
+const BIG_INTERFACE: &[u8] =
+    b"INTERFACE m MODULES big; LATTICE LOW; LEVEL a() IS LOW; SAMPLE s; END_INTERFACE";
+
+// A module of 65 bytes.
+const BIG_MODULE: &[u8] = b"MODULE big FUNCTIONS VFUN a() -> INTEGER; INITIALLY 1; END_MODULE";
 
 const INSTANCE: &[u8] = b"INSTANCE s END_INSTANCE";
 
@@ -32,6 +38,28 @@ fn outcome(
         ("s.inst", INSTANCE),
         ("s.script", script),
     ];
+    outcome_of(alloc, words, texts, failing, room)
+}
+
+// The status of a run whose module is this text, and what it wrote.
+fn module_outcome(alloc: Global, text: &[u8]) -> Result<(Status, MemorySink), Memory> {
+    let texts = [
+        ("m.iface", INTERFACE),
+        ("m.special", text),
+        ("s.inst", INSTANCE),
+        ("s.script", b"".as_slice()),
+    ];
+    outcome_of(alloc, &SWAP, texts, Vec::new(alloc), 100)
+}
+
+// The status of a run over these files, and what it wrote.
+fn outcome_of(
+    alloc: Global,
+    words: &[&str],
+    texts: [(&str, &[u8]); 4],
+    failing: Vec<u64>,
+    room: usize,
+) -> Result<(Status, MemorySink), Memory> {
     let mut files = Vec::new(alloc);
     for (name, text) in texts {
         files.push((String::from_str(alloc, name)?, text.to_vec(alloc)?))?;
@@ -44,6 +72,14 @@ fn outcome(
     let mut out = MemorySink::with_capacity(alloc, room)?;
     let status = run(alloc, &given, &mut library, &mut out);
     Ok((status, out))
+}
+
+// Appends the piece so many times.
+fn repeat(alloc: Global, text: &mut Vec<u8>, piece: &[u8], times: u32) -> Result<(), Memory> {
+    for _ in 0..times {
+        push_text(alloc, text, piece)?;
+    }
+    Ok(())
 }
 
 #[test]
@@ -96,5 +132,124 @@ fn a_failed_read_or_write_is_answered(rt: HostRuntime) -> Result<(), Fail> {
     let (unwritten, part) = outcome(alloc, &SWAP, b"", Vec::new(alloc), 10)?;
     assert_eq!(rt; unwritten.code(), 6);
     assert_eq!(rt; part.bytes(), b"INTERFACE ".as_slice());
+    Ok(())
+}
+
+#[test]
+fn a_fault_of_a_module_has_its_place(rt: HostRuntime) -> Result<(), Fail> {
+    let alloc = rt.alloc();
+    let rows: [(&[u8], &[u8]); 3] = [
+        (b"MODULE m", b"MALFORMED m.special 8 8 Unexpected\n"),
+        (
+            b"MODULE m ASSERTIONS x <= y <= z; END_MODULE",
+            b"MALFORMED m.special 27 29 Unexpected\n",
+        ),
+        (
+            b"MODULE m $( note",
+            b"MALFORMED m.special 9 16 OpenComment\n",
+        ),
+    ];
+    for (text, printed) in rows {
+        let (status, out) = module_outcome(alloc, text)?;
+        assert_eq!(rt; status.code(), 2);
+        assert_eq!(rt; out.bytes(), printed);
+    }
+    Ok(())
+}
+
+// A module that asserts TRUE within so many parentheses.
+fn with_parentheses(alloc: Global, depth: u32) -> Result<Vec<u8>, Memory> {
+    let mut text = b"MODULE m ASSERTIONS ".to_vec(alloc)?;
+    repeat(alloc, &mut text, b"(", depth)?;
+    push_text(alloc, &mut text, b"TRUE")?;
+    repeat(alloc, &mut text, b")", depth)?;
+    push_text(alloc, &mut text, b"; END_MODULE")?;
+    Ok(text)
+}
+
+#[test]
+fn an_expression_is_at_most_64_high(rt: HostRuntime) -> Result<(), Fail> {
+    let alloc = rt.alloc();
+    let (read, unbuilt) = module_outcome(alloc, &with_parentheses(alloc, 63)?)?;
+    assert_eq!(rt; read.code(), 2);
+    assert_eq!(rt;
+        unbuilt.bytes(),
+        b"MALFORMED m.special 0 162 Unbuilt\n".as_slice()
+    );
+    let (refused, limit) = module_outcome(alloc, &with_parentheses(alloc, 64)?)?;
+    assert_eq!(rt; refused.code(), 7);
+    assert_eq!(rt;
+        limit.bytes(),
+        b"LIMIT height 64 AT m.special 83\n".as_slice()
+    );
+    Ok(())
+}
+
+// A module with so many IF effects in one another.
+fn with_nested_effects(alloc: Global, depth: u32) -> Result<Vec<u8>, Memory> {
+    let mut text = b"MODULE m FUNCTIONS OFUN f(); EFFECTS ".to_vec(alloc)?;
+    repeat(alloc, &mut text, b"IF TRUE THEN ", depth)?;
+    repeat(alloc, &mut text, b"ELSE END_IF; ", depth)?;
+    push_text(alloc, &mut text, b"END_MODULE")?;
+    Ok(text)
+}
+
+#[test]
+fn effects_are_nested_at_most_16_deep(rt: HostRuntime) -> Result<(), Fail> {
+    let alloc = rt.alloc();
+    let (read, unbuilt) = module_outcome(alloc, &with_nested_effects(alloc, 16)?)?;
+    assert_eq!(rt; read.code(), 2);
+    assert_eq!(rt;
+        unbuilt.bytes(),
+        b"MALFORMED m.special 0 463 Unbuilt\n".as_slice()
+    );
+    let (refused, limit) = module_outcome(alloc, &with_nested_effects(alloc, 17)?)?;
+    assert_eq!(rt; refused.code(), 7);
+    assert_eq!(rt;
+        limit.bytes(),
+        b"LIMIT effect nesting 16 AT m.special 245\n".as_slice()
+    );
+    Ok(())
+}
+
+#[test]
+fn a_text_has_at_most_200000_tokens(rt: HostRuntime) -> Result<(), Fail> {
+    let alloc = rt.alloc();
+    let mut text = b"MODULE m ".to_vec(alloc)?;
+    repeat(alloc, &mut text, b";", 199_999)?;
+    let (status, out) = module_outcome(alloc, &text)?;
+    assert_eq!(rt; status.code(), 7);
+    assert_eq!(rt;
+        out.bytes(),
+        b"LIMIT tokens 200000 AT m.special 200007\n".as_slice()
+    );
+    Ok(())
+}
+
+// The status of a run whose module is followed by so many blanks, and what it wrote.
+fn big_outcome(alloc: Global, blanks: u32) -> Result<(Status, MemorySink), Memory> {
+    let mut text = BIG_MODULE.to_vec(alloc)?;
+    repeat(alloc, &mut text, b" ", blanks)?;
+    let texts = [
+        ("m.iface", BIG_INTERFACE),
+        ("big.special", text.as_slice()),
+        ("s.inst", INSTANCE),
+        ("s.script", b"".as_slice()),
+    ];
+    outcome_of(alloc, &SWAP, texts, Vec::new(alloc), 100)
+}
+
+#[test]
+fn a_file_has_at_most_1048576_bytes(rt: HostRuntime) -> Result<(), Fail> {
+    let alloc = rt.alloc();
+    let (read, answered) = big_outcome(alloc, 1_048_511)?;
+    assert_eq!(rt; read.code(), 0);
+    assert_eq!(rt; answered.bytes(), b"INTERFACE m\nEND 0\n".as_slice());
+    let (refused, limit) = big_outcome(alloc, 1_048_512)?;
+    assert_eq!(rt; refused.code(), 7);
+    assert_eq!(rt;
+        limit.bytes(),
+        b"LIMIT file bytes 1048576 AT big.special\n".as_slice()
+    );
     Ok(())
 }

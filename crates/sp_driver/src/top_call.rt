@@ -3,7 +3,7 @@ ghost use Rattle.sp_outside.specs.Causes.{Rose};
 ghost use Rattle.sp_driver.specs.Early.{IfReport, IsReadFault, Reports};
 ghost use Rattle.sp_driver.specs.Report.{CommandReport, IsLoading, IsReport};
 ghost use Rattle.sp_driver.specs.Meant.{command_meant};
-ghost use Rattle.sp_driver.specs.Run.{AnswersWhere, CutShort, IsDetermined, MeetsMissing, MeetsTooLong, Reported};
+ghost use Rattle.sp_driver.specs.Run.{AnswersWhere, CutShort, IsDetermined, MeetsLimit, MeetsMalformed, MeetsMissing, Reported};
 ghost use Rattle.sp_driver.specs.Status.{is_reported};
 ghost use Rattle.sp_driver.specs.Words.{command_of, texts_of};
 
@@ -27,11 +27,14 @@ pub fn run<L: Library, S: Sink>(alloc: Global, words: &[String], lib: &mut L, ou
     ensures words_only { result ≡ Status.Words → command_of (texts_of words.now) ≡ None }
     ensures words_always { command_of (texts_of words.now) ≡ None → (result ≡ Status.Words) ⊎ (result ≡ Status.WriteFault) ⊎ (result ≡ Status.Memory) }
 
-    // Missing and Limit of bytes, exactly where the first file that isn't read is missing or too long.
+    // Missing, Limit and Malformed, exactly where the first file that isn't read is missing, exceeds a limit, or breaks a rule;
+    // or where all are read and are judged unsound.
     ensures missing_only { result ≡ Status.Missing → IfSome (L.told lib.old) (MeetsMissing (texts_of words.now)) }
     ensures missing_always { IfSome (L.told lib.old) (λ files. AnswersWhere (MeetsMissing (texts_of words.now)) Status.Missing result files) }
-    ensures limit_only { result ≡ Status.Limit → IfSome (L.told lib.old) (MeetsTooLong (texts_of words.now)) }
-    ensures limit_always { IfSome (L.told lib.old) (λ files. AnswersWhere (MeetsTooLong (texts_of words.now)) Status.Limit result files) }
+    ensures limit_only { result ≡ Status.Limit → IfSome (L.told lib.old) (MeetsLimit (texts_of words.now)) }
+    ensures limit_always { IfSome (L.told lib.old) (λ files. AnswersWhere (MeetsLimit (texts_of words.now)) Status.Limit result files) }
+    ensures malformed_only { result ≡ Status.Malformed → IfSome (L.told lib.old) (MeetsMalformed (texts_of words.now)) }
+    ensures malformed_always { IfSome (L.told lib.old) (λ files. AnswersWhere (MeetsMalformed (texts_of words.now)) Status.Malformed result files) }
 
     // Each other answer has its cause, and writes no more than is said.
     ensures read_fault { result ≡ Status.ReadFault → Rose (L.faults lib.old) (L.faults lib.new) }

@@ -16,3 +16,9 @@ returns-clause-limit_only g c = causes.limit_only (texts_of c.args.words.now) _ 
 
 pub returns-clause-limit_always : goal.returns-clause-limit_always
 returns-clause-limit_always g c = causes.limit_always (texts_of c.args.words.now) _ _ c.perform.result _ c.perform.ensures.reported
+
+pub returns-clause-malformed_only : goal.returns-clause-malformed_only
+returns-clause-malformed_only g c = causes.malformed_only (texts_of c.args.words.now) _ _ c.perform.result _ c.perform.ensures.reported
+
+pub returns-clause-malformed_always : goal.returns-clause-malformed_always
+returns-clause-malformed_always g c = causes.malformed_always (texts_of c.args.words.now) _ _ c.perform.result _ c.perform.ensures.reported

@@ -1,9 +1,9 @@
 -- The specification that counts is well-formed, and what may be asked of it.
-use Rattle.std.proofs.Common.{◌≡◌, refl, sym, ◌∙◌, ap, subst, arith, ℕ, zero, suc, ◌+◌, ◌<◌, ◌≤◌, List, [], ◌∷◌, length, map, Some, None}
+use Rattle.std.proofs.Common.{◌≡◌, refl, sym, ◌∙◌, ap, subst, arith, ℕ, zero, suc, ◌+◌, ◌<◌, ◌≤◌, List, [], ◌∷◌, ◌++◌, length, map, Some, None}
 use Rattle.std.specs.Prelude.{pos, IsTrue, nat_lt, slice_get, codes}
 use Rattle.std.specs.List.{All, range_with_len}
 use Rattle.std.proofs.lemmas.List.Elements.{All-nil}
-use Rattle.std.proofs.lemmas.List.FromFn.{get_or-map-range_with_len, length-map-range_with_len}
+use Rattle.std.proofs.lemmas.List.FromFn.{get_or-map-range_with_len, length-map-range_with_len, map-range_with_len_more}
 use Rattle.std.proofs.lemmas.Option.{slice_get-get_or, slice_get_within}
 use Rattle.sp_lattice.specs.Order.{IsLatticeOrder, Order}
 use Rattle.sp_values.specs.declared.value.Ty.{Ty}
@@ -32,6 +32,10 @@ use Rattle.sp_eval_examples.proofs.Parts.{function_fine, low_fine, no_formals, t
 -- the function at each number
 pub count_at : (n g : ℕ) → g < n → slice_get (count_functions n) g ≡ Some (count_function g)
 count_at n g l = slice_get-get_or (count_functions n) g (count_function 0) (omega (arith, length-map-range_with_len count_function 0 n)) ∙ ap Some (get_or-map-range_with_len count_function 0 n g g (count_function 0) l (omega arith))
+
+-- one function more
+pub count_more : (k : ℕ) (fs gs : List Function) (f : Function) → fs ≡ count_functions k → f ≡ count_function k → gs ≡ fs ++ f ∷ [] → gs ≡ count_functions (k + 1)
+count_more k fs gs f a b h = h ∙ (λ i. a i ++ b i ∷ []) ∙ sym (map-range_with_len_more count_function 0 k k (omega arith))
 
 -- it is as deep as its number
 count_depth : (n m g : ℕ) → g < n → g ≤ m → IsWithinDepth (count_functions n) m g

@@ -1,33 +1,25 @@
 -- The specification of clearances is well-formed, its instances are some of it, and what may be asked of them.
-use Rattle.std.proofs.Common.{◌≡◌, refl, sym, ◌∙◌, ap, subst, arith, ℕ, zero, suc, ◌<◌, ◌≤◌, List, [], ◌∷◌, length, map, Some, None}
-use Rattle.std.specs.Prelude.{pos, IsTrue, codes, slice_get, slice_index_or}
-use Rattle.std.proofs.lemmas.List.Elements.{All-nil}
+use Rattle.std.proofs.Common.{◌≡◌, refl, sym, subst, arith, ℕ, zero, suc, ◌<◌, ◌≤◌, List, [], ◌∷◌, length, Some}
+use Rattle.std.specs.Prelude.{IsTrue, codes, slice_get}
 use Rattle.sp_lattice.specs.Order.{IsLatticeOrder, Order}
-use Rattle.sp_values.specs.Domains.{Sizes, are_values, is_value}
-use Rattle.sp_values.specs.declared.place.Invocation.{Invocation}
-use Rattle.sp_values.specs.declared.value.Ty.{Ty}
 use Rattle.sp_values.specs.declared.value.Ty.TheVariants as ty
 use Rattle.sp_values.specs.declared.value.Value.{Value}
 use Rattle.sp_values.specs.declared.value.Value.TheVariants as value
 use Rattle.sp_core.specs.declared.expr.Expr.{Expr}
-use Rattle.sp_core.specs.declared.expr.Expr.TheVariants as expr
 use Rattle.sp_core.specs.declared.function.Assertion.{Assertion}
 use Rattle.sp_core.specs.declared.function.Function.{Function}
-use Rattle.sp_core.specs.declared.function.Kind.TheVariants as kind
 use Rattle.sp_core.specs.declared.function.Param.{Param}
 use Rattle.sp_core.specs.declared.function.TypeInfo.{TypeInfo}
-use Rattle.sp_core.specs.declared.instance.Table.{Table}
-use Rattle.sp_core.specs.Instances.{InstanceParts, IsInstanceOf, IsTable, filling_of, machine_of, sizes_of}
-use Rattle.sp_core.specs.Machine.{IsInvocation, types_of}
-use Rattle.sp_core.specs.Measures.{kind_nodes}
+use Rattle.sp_core.specs.Instances.{InstanceParts, filling_of, machine_of}
+use Rattle.sp_core.specs.Machine.{IsInvocation}
 use Rattle.sp_core.specs.Parts.{Parts, signature}
 use Rattle.sp_core.specs.Tree.{Look, none, tree}
 use Rattle.sp_core.specs.Typing.{HasType, Signature, is_finite, is_type}
-use Rattle.sp_core.specs.WellFormed.{AreDifferent, AreFormals, IsAssertion, IsEarlier, IsEarlierAs, IsExpression, IsFunction, IsKind, IsLevel, IsParam, IsWellFormed, members_of, names_of}
+use Rattle.sp_core.specs.WellFormed.{AreFormals, IsAssertion, IsEarlier, IsEarlierAs, IsExpression, IsFunction, IsKind, IsLevel, IsParam, IsWellFormed, members_of, names_of}
 use Rattle.sp_eval.specs.Conditions.{IsRead}
-use Rattle.sp_eval_examples.specs.Clearances.{AreOverLowHigh, IsLowHigh, base, base_is_below, base_level, clearance, clearances, clr, colour_type, colours, each_is_red, each_is_true, each_user_is_false, eq_function, everywhere, excluded_middle, function, functions, high_for_first, instance_of, le_function, low, low_is_least, max_function, none_is_unknown, one_user, pool_function, seen_function, user, user_type}
+use Rattle.sp_eval_examples.specs.Clearances.{AreOverLowHigh, IsLowHigh, base, base_is_below, base_level, clearance, clearances, clr, colour_type, colours, each_is_red, eq_function, functions, le_function, low, max_function, none_is_unknown, one_user, pool_function, seen_function, user, user_type}
 use Rattle.sp_eval_examples.proofs.NameLemmas.{AreDifferent-by, some_same}
-use Rattle.sp_eval_examples.proofs.Parts.{All-one, All-two, everywhere_fine, function_fine, low_fine, no_formals, tree_lemmas}
+use Rattle.sp_eval_examples.proofs.Parts.{All-one, All-two, function_fine, low_fine, no_formals, tree_lemmas}
 
 module _ (o : Order) where
   abbrev sg : Signature
@@ -139,69 +131,6 @@ pub clearances_assemble : (o : Order) (name : List ℕ) (levels : List (List ℕ
 clearances_assemble o name levels types params assertions fs lattice order a b c d e f =
     subst IsWellFormed (sym (λ i. record { name = a i; lattice = o; level_names = b i; types = c i; params = d i; assertions = e i; functions = f i })) (clearances_well_formed o lattice order.count_same)
 
--- Instances
-
--- the sizes with n levels and these users
-abbrev sizes_with : ℕ → List (List ℕ) → Sizes
-sizes_with n users = record { levels = n; members = λ k. slice_index_or (length users ∷ 2 ∷ []) k 0 }
-
--- a table that gives HIGH at the one user
-high_fine : IsTable (sizes_with 2 one_user) clr high_for_first
-high_fine = record {
-  arguments = All-one (λ (r : List Value × Value). IsTrue (are_values (sizes_with 2 one_user) (ty.Member 0 ∷ []) r.0)) (value.Member 0 0 ∷ [], value.Level 1) refl;
-  values = All-one (λ (r : List Value × Value). IsTrue (is_value (sizes_with 2 one_user) ty.Level r.1)) (value.Member 0 0 ∷ [], value.Level 1) refl;
-  other = refl;
-  different = one;
-}
-  where
-    one : (i j : ℕ) (a b : List Value × Value) → slice_get high_for_first.rows i ≡ Some a → slice_get high_for_first.rows j ≡ Some b → a.0 ≡ b.0 → i ≡ j
-    one zero zero a b p q e = refl
-    one zero (suc j) a b p q e = cc
-    one (suc i) j a b p q e = cc
-
--- few different users with fine tables are an instance
-instance_fine : (o : Order) → o.count ≡ 2 → (users : List (List ℕ)) → length users ≤ 64 → AreDifferent users → (c b : Table) → IsTable (sizes_with 2 users) clr c → IsTable (sizes_with 2 users) base b → IsInstanceOf (clearances o) (instance_of users c b)
-instance_fine o two users few different c b c_fine b_fine = record {
-  few = All-two (λ names. length names ≤ 64) users colours few (omega arith);
-  different = All-two AreDifferent users colours different (AreDifferent-by colours refl);
-  members = declared;
-  instance = record { sizes = refl; enumerations = counted; tables = refl; each = each };
-}
-  where
-    declared : (k : ℕ) (info : TypeInfo) (names : List (List ℕ)) → slice_get (user_type ∷ colour_type ∷ []) k ≡ Some info → info.members ≡ Some names → slice_get (users ∷ colours ∷ []) k ≡ Some names
-    declared zero info names e f = let g : None ≡ Some names = ap (λ (x : TypeInfo). x.members) (some_same e) ∙ f in cc
-    declared (suc zero) info names e f = ap (λ (x : TypeInfo). x.members) (some_same e) ∙ f
-    declared (suc (suc k)) info names e f = cc
-
-    counted : (k : ℕ) (info : TypeInfo) (names : List (List ℕ)) → slice_get (user_type ∷ colour_type ∷ []) k ≡ Some info → info.members ≡ Some names → slice_get (length users ∷ 2 ∷ []) k ≡ Some (length names)
-    counted zero info names e f = let g : None ≡ Some names = ap (λ (x : TypeInfo). x.members) (some_same e) ∙ f in cc
-    counted (suc zero) info names e f = let g : Some colours ≡ Some names = ap (λ (x : TypeInfo). x.members) (some_same e) ∙ f in ap (λ names. Some (length names)) (some_same g)
-    counted (suc (suc k)) info names e f = cc
-
-    each : (n : ℕ) (q : Param) (t : Table) → slice_get (clr ∷ base ∷ []) n ≡ Some q → slice_get (c ∷ b ∷ []) n ≡ Some t → IsTable (sizes_with o.count users) q t
-    each zero q t e f = subst (λ n. IsTable (sizes_with n users) q t) (sym two) (subst (λ (p : Param). IsTable (sizes_with 2 users) p t) (some_same e) (subst (IsTable (sizes_with 2 users) clr) (some_same f) c_fine))
-    each (suc zero) q t e f = subst (λ n. IsTable (sizes_with n users) q t) (sym two) (subst (λ (p : Param). IsTable (sizes_with 2 users) p t) (some_same e) (subst (IsTable (sizes_with 2 users) base) (some_same f) b_fine))
-    each (suc (suc n)) q t e f = cc
-
--- one user
-different_one : AreDifferent one_user
-different_one = AreDifferent-by one_user refl
-
--- parts that are those of one instance are an instance
-module _ (p : Parts) (a : AreOverLowHigh clearances p) (users : List (List ℕ)) (c b : Table) where
-  over : (us : List (List ℕ)) (d e : Table) → users ≡ us → c ≡ d → b ≡ e → IsInstanceOf (clearances p.lattice) (instance_of us d e) → IsInstanceOf p (instance_of users c b)
-  over us d e f g h fine = subst (IsInstanceOf p) (sym (λ i. instance_of (f i) (g i) (h i))) (subst (λ q. IsInstanceOf q (instance_of us d e)) (sym a.parts) fine)
-
-  -- one user, and two tables without rows
-  pub flat_fine : users ≡ one_user → (l m : ℕ) → IsTrue (is_value (sizes_with 2 one_user) ty.Level (value.Level l)) → IsTrue (is_value (sizes_with 2 one_user) ty.Level (value.Level m)) → c ≡ everywhere l → b ≡ everywhere m → IsInstanceOf p (instance_of users c b)
-  flat_fine f l m y z g h = over one_user (everywhere l) (everywhere m) f g h (instance_fine p.lattice a.order.count_same one_user (omega arith) different_one (everywhere l) (everywhere m) (everywhere_fine (sizes_with 2 one_user) clr l y) (everywhere_fine (sizes_with 2 one_user) base m z))
-
-  pub first_is_high_fine : users ≡ one_user → c ≡ high_for_first → b ≡ everywhere 0 → IsInstanceOf p (instance_of users c b)
-  first_is_high_fine f g h = over one_user high_for_first (everywhere 0) f g h (instance_fine p.lattice a.order.count_same one_user (omega arith) different_one high_for_first (everywhere 0) high_fine (everywhere_fine (sizes_with 2 one_user) base 0 refl))
-
-  pub nobody_fine : users ≡ [] → c ≡ everywhere 0 → b ≡ everywhere 1 → IsInstanceOf p (instance_of users c b)
-  nobody_fine f g h = over [] (everywhere 0) (everywhere 1) f g h (instance_fine p.lattice a.order.count_same [] (omega arith) (AreDifferent-by [] refl) (everywhere 0) (everywhere 1) (everywhere_fine (sizes_with 2 []) clr 0 refl) (everywhere_fine (sizes_with 2 []) base 1 refl))
-
 -- What may be asked
 
 module _ (p : Parts) (a : AreOverLowHigh clearances p) where
@@ -226,22 +155,8 @@ module _ (p : Parts) (a : AreOverLowHigh clearances p) where
   sentence : (s e : Expr) → e ≡ s → IsExpression (sg p.lattice) [] (tree s) ty.Boolean → IsExpression (signature p) [] (tree e) ty.Boolean
   sentence s e f h = subst (λ q. IsExpression (signature q) [] (tree e) ty.Boolean) (sym a.parts) (subst (λ d. IsExpression (sg p.lattice) [] (tree d) ty.Boolean) (sym f) h)
 
-  pub excluded_middle_fine : (e : Expr) → e ≡ excluded_middle → IsExpression (signature p) [] (tree e) ty.Boolean
-  excluded_middle_fine e f = sentence excluded_middle e f (simp tree_lemmas (record { typed = (refl, refl, refl, (ty.Boolean, (refl, refl), refl, (refl, refl))); few_nodes = omega arith; few_quantifiers = omega arith; no_new = (tt, tt) }))
-
-  pub each_is_true_fine : (e : Expr) → e ≡ each_is_true → IsExpression (signature p) [] (tree e) ty.Boolean
-  each_is_true_fine e f = sentence each_is_true e f (simp tree_lemmas (record { typed = (refl, refl, refl, refl); few_nodes = omega arith; few_quantifiers = omega arith; no_new = tt }))
-
-  pub low_is_least_fine : (e : Expr) → e ≡ low_is_least → IsExpression (signature p) [] (tree e) ty.Boolean
-  low_is_least_fine e f =
-      let l = (low_fine (sg p.lattice) a.order.count_same (ty.Level ∷ [])).expression.typed in
-      sentence low_is_least e f (simp tree_lemmas (record { typed = (refl, refl, refl, (ty.Level, (refl, refl), simp tree_lemmas at l, refl)); few_nodes = omega arith; few_quantifiers = omega arith; no_new = (tt, tt) }))
-
   pub each_is_red_fine : (e : Expr) → e ≡ each_is_red → IsExpression (signature p) [] (tree e) ty.Boolean
   each_is_red_fine e f = sentence each_is_red e f (simp tree_lemmas (record { typed = (refl, refl, refl, (ty.Member 1, refl, refl, refl)); few_nodes = omega arith; few_quantifiers = omega arith; no_new = (tt, tt) }))
 
   pub none_is_unknown_fine : (e : Expr) → e ≡ none_is_unknown → IsExpression (signature p) [] (tree e) ty.Boolean
   none_is_unknown_fine e f = sentence none_is_unknown e f (simp tree_lemmas (record { typed = (refl, refl, refl, (refl, (ty.Member 0, refl, refl, refl))); few_nodes = omega arith; few_quantifiers = omega arith; no_new = (tt, tt) }))
-
-  pub each_user_is_false_fine : (e : Expr) → e ≡ each_user_is_false → IsExpression (signature p) [] (tree e) ty.Boolean
-  each_user_is_false_fine e f = sentence each_user_is_false e f (simp tree_lemmas (record { typed = (refl, refl, refl, refl); few_nodes = omega arith; few_quantifiers = omega arith; no_new = tt }))

@@ -1,30 +1,23 @@
 -- The specification that counts is well-formed, and what may be asked of it.
-use Rattle.std.proofs.Common.{◌≡◌, refl, sym, ◌∙◌, ap, subst, arith, ℕ, zero, suc, ◌+◌, ◌<◌, ◌≤◌, List, [], ◌∷◌, ◌++◌, length, map, Some, None}
-use Rattle.std.specs.Prelude.{pos, IsTrue, nat_lt, slice_get, codes}
-use Rattle.std.specs.List.{All, range_with_len}
+use Rattle.std.proofs.Common.{◌≡◌, refl, sym, ◌∙◌, ap, subst, arith, ℕ, zero, suc, ◌+◌, ◌<◌, ◌≤◌, List, [], ◌∷◌, ◌++◌, length, Some}
+use Rattle.std.specs.Prelude.{slice_get, codes}
 use Rattle.std.proofs.lemmas.List.Elements.{All-nil}
 use Rattle.std.proofs.lemmas.List.FromFn.{get_or-map-range_with_len, length-map-range_with_len, map-range_with_len_more}
 use Rattle.std.proofs.lemmas.Option.{slice_get-get_or, slice_get_within}
 use Rattle.sp_lattice.specs.Order.{IsLatticeOrder, Order}
-use Rattle.sp_values.specs.declared.value.Ty.{Ty}
 use Rattle.sp_values.specs.declared.value.Ty.TheVariants as ty
 use Rattle.sp_values.specs.declared.value.Value.{Value}
-use Rattle.sp_values.specs.declared.value.Value.TheVariants as value
-use Rattle.sp_values.specs.declared.value.Op.TheVariants as op
-use Rattle.sp_core.specs.declared.expr.Expr.TheVariants as expr
 use Rattle.sp_core.specs.declared.function.Assertion.{Assertion}
 use Rattle.sp_core.specs.declared.function.Function.{Function}
 use Rattle.sp_core.specs.declared.function.Param.{Param}
 use Rattle.sp_core.specs.declared.function.TypeInfo.{TypeInfo}
-use Rattle.sp_core.specs.declared.instance.Table.{Table}
-use Rattle.sp_core.specs.Instances.{InstanceParts, IsInstanceOf}
-use Rattle.sp_core.specs.Measures.{Anything, DerivesFrom, IsNotDerived, IsWithinDepth, kind_nodes}
+use Rattle.sp_core.specs.Instances.{InstanceParts}
+use Rattle.sp_core.specs.Measures.{DerivesFrom, IsNotDerived, IsWithinDepth, kind_nodes}
 use Rattle.sp_core.specs.Parts.{Parts, signature}
-use Rattle.sp_core.specs.Tree.{tree}
 use Rattle.sp_core.specs.Typing.{Signature, read_type}
-use Rattle.sp_core.specs.WellFormed.{AreDifferent, IsAssertion, IsEarlier, IsEarlierAs, IsFunction, IsKind, IsParam, IsWellFormed, members_of, names_of}
+use Rattle.sp_core.specs.WellFormed.{IsAssertion, IsEarlierAs, IsFunction, IsKind, IsParam, IsWellFormed, members_of, names_of}
 use Rattle.sp_eval.specs.Conditions.{IsRead}
-use Rattle.sp_eval_examples.specs.Clearances.{AreOverLowHigh, IsLowHigh, function, look_at, low}
+use Rattle.sp_eval_examples.specs.Clearances.{AreOverLowHigh, IsLowHigh, low}
 use Rattle.sp_eval_examples.specs.Counting.{count_function, count_functions, count_kind, counting}
 use Rattle.sp_eval_examples.proofs.NameLemmas.{AreDifferent-by, some_same}
 use Rattle.sp_eval_examples.proofs.Parts.{function_fine, low_fine, no_formals, tree_lemmas}
@@ -106,15 +99,6 @@ pub counting_assemble : (o : Order) (name : List ℕ) (levels : List (List ℕ))
     → IsWellFormed (record { name = name; lattice = o; level_names = levels; types = types; params = params; assertions = assertions; functions = fs })
 counting_assemble o name levels types params assertions fs lattice order a b c d e f =
     subst IsWellFormed (sym (λ i. record { name = a i; lattice = o; level_names = b i; types = c i; params = d i; assertions = e i; functions = f i })) (counting_well_formed o lattice order.count_same)
-
--- an instance has nothing to give
-pub none_is_instance : (p : Parts) → AreOverLowHigh counting p → (members : List (List (List ℕ))) (tables : List Table) → members ≡ [] → tables ≡ [] → IsInstanceOf p (record { members = members; tables = tables })
-none_is_instance p a members tables e f = subst (IsInstanceOf p) (sym (λ i. record { members = e i; tables = f i })) (subst (λ q. IsInstanceOf q (record { members = []; tables = [] })) (sym a.parts) (record {
-  few = All-nil (λ (names : List (List ℕ)). length names ≤ 64);
-  different = All-nil AreDifferent;
-  members = λ k info names e f. cc;
-  instance = record { sizes = refl; enumerations = λ k info names e f. cc; tables = refl; each = λ n q t e f. cc };
-}))
 
 -- the last function is a V-function without formals
 pub last_is_read : (p : Parts) → AreOverLowHigh counting p → (i : InstanceParts) (v : List Value) → v ≡ [] → IsRead p i 16 v

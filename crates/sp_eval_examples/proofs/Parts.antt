@@ -1,26 +1,20 @@
--- Parts that both worked specifications have: a few items, functions without exceptions, tables and the initial state.
-use Rattle.std.proofs.Common.{◌≡◌, refl, sym, subst, arith, ℕ, zero, suc, ◌<◌, ◌≤◌, Bool, true, List, [], ◌∷◌, length, map, Some}
-use Rattle.std.specs.Prelude.{IsTrue, nat_lt, slice_get}
+-- Parts that both worked specifications have: lists of a few items, and functions without exceptions.
+use Rattle.std.proofs.Common.{◌≡◌, refl, sym, subst, arith, ℕ, ◌≤◌, List, [], ◌∷◌}
+use Rattle.std.specs.Prelude.{IsTrue, nat_lt}
 use Rattle.std.specs.List.{All}
 use Rattle.std.proofs.lemmas.List.Elements.{All-cons, All-nil}
-use Rattle.sp_lattice.specs.Order.{Order}
-use Rattle.sp_values.specs.Domains.{Sizes, are_values, is_value}
 use Rattle.sp_values.specs.declared.value.Ty.{Ty}
 use Rattle.sp_values.specs.declared.value.Ty.TheVariants as ty
-use Rattle.sp_values.specs.declared.value.Value.{Value}
-use Rattle.sp_values.specs.declared.value.Value.TheVariants as value
 use Rattle.sp_core.specs.declared.expr.Expr.{Expr}
 use Rattle.sp_core.specs.declared.function.Formal.{Formal}
 use Rattle.sp_core.specs.declared.function.Kind.{Kind}
-use Rattle.sp_core.specs.declared.function.Param.{Param}
-use Rattle.sp_core.specs.Instances.{IsTable}
 use Rattle.sp_core.specs.Machine.{types_of}
 use Rattle.sp_core.specs.Measures.{kind_nodes}
 use Rattle.sp_core.specs.Tree.{tree}
 use Rattle.sp_core.specs.Typing.{Signature, is_type}
 use Rattle.sp_core.specs.WellFormed.{AreFormals, IsExpression, IsFunction, IsKind, IsLevel}
 use Rattle.sp_eval.proofs.TreeLemmas.{tree-Const, tree-Every, tree-If, tree-Look, tree-New, tree-Not, tree-Param, tree-Two, tree-Var}
-use Rattle.sp_eval_examples.specs.Clearances.{everywhere, function, low}
+use Rattle.sp_eval_examples.specs.Clearances.{function, low}
 use Rattle.sp_eval_examples.proofs.NameLemmas.{AreDifferent-by}
 
 pub ruleset tree_lemmas = (tree-Const, tree-Var, tree-Not, tree-Two, tree-If, tree-Param, tree-Look, tree-Every, tree-New)
@@ -56,12 +50,3 @@ low_fine sg two xs = simp tree_lemmas (record {
   reads_nothing = tt;
   no_quantifier = refl;
 })
-
--- a table without rows
-pub everywhere_fine : (sz : Sizes) (q : Param) (l : ℕ) → IsTrue (is_value sz q.ty (value.Level l)) → IsTable sz q (everywhere l)
-everywhere_fine sz q l h = record {
-  arguments = All-nil (λ (r : List Value × Value). IsTrue (are_values sz (types_of q.formals) r.0));
-  values = All-nil (λ (r : List Value × Value). IsTrue (is_value sz q.ty r.1));
-  other = h;
-  different = λ i j a b p. cc;
-}

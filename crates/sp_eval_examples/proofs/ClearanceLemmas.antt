@@ -1,4 +1,4 @@
--- The specification of clearances is well-formed, its instances are some of it, and what may be asked of them.
+-- The specification of clearances is well-formed, and what may be asked of it and of its instances.
 use Rattle.std.proofs.Common.{◌≡◌, refl, sym, subst, arith, ℕ, zero, suc, ◌<◌, ◌≤◌, List, [], ◌∷◌, length, Some}
 use Rattle.std.specs.Prelude.{IsTrue, codes, slice_get}
 use Rattle.sp_lattice.specs.Order.{IsLatticeOrder, Order}

@@ -1,0 +1,4 @@
+mod NameLemmas
+mod Parts
+mod CountingLemmas
+mod ClearanceLemmas

@@ -1,0 +1,2 @@
+pub mod Clearances
+pub mod Counting

@@ -1,0 +1,5 @@
+//! Worked examples of evaluation, as tests: two small specifications that are built by hand.
+#![tactic(auto)]
+
+#[cfg(test)]
+mod tests;

@@ -13,3 +13,6 @@ mod tokens;
 
 pub use parse::parse_module;
 pub use sp_expression::parse_expr;
+
+#[cfg(test)]
+mod tests;

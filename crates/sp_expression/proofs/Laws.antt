@@ -338,7 +338,7 @@ module _ (ts : List Token) where
       let n = sub_either _ _ _ _ (sub_made (not_tree ts) _ _ (sub_behind word_not t.negation u.negation s.negation)) c in
       let a = sub_bin and_ops _ _ _ _ _ _ n s.conjunction s.negation in
       let o = sub_bin or_ops _ _ _ _ _ _ a s.disjunction s.conjunction in
-      let i = sub_bin implies_ops _ _ _ _ _ _ o s.disjunction s.disjunction in
+      let i = sub_bin implies_ops _ _ _ _ _ _ o s.disjunction s.implication in
       let e = sub_bin iff_ops _ _ _ _ _ _ i s.expression s.implication in
       record { primary = p; product = q; sum = r; comparison = c; negation = n; conjunction = a; disjunction = o; implication = i; expression = e }
 
@@ -360,11 +360,11 @@ module _ (ts : List Token) where
       let p = fine_primary (expression ts b) f.expression in
       let q = fine_chain (at ts) product_ops (binary_tree ts) primary_first primary_more product_more (primary ts) (product ts) refl refl refl refl (λ d. sub_refl _) (λ d. sub_refl _) (sub_refl _) (λ d. (grows d).primary) (λ d. (grows d).product) b p f.primary f.product in
       let r = fine_chain (at ts) sum_ops (binary_tree ts) primary_first product_more sum_more (product ts) (sum ts) refl refl refl refl (λ d. sub_refl _) (λ d. sub_refl _) (sub_refl _) (λ d. (grows d).product) (λ d. (grows d).sum) b q f.product f.sum in
-      let c = fine_pair (at ts) comparison_ops (binary_tree ts) primary_first sum_more comparison_more (sum ts) refl refl refl refl (λ d. (grows d).sum) b r f.sum in
+      let c = fine_pair (at ts) comparison_ops (binary_tree ts) primary_first sum_more sum_more (sum ts (suc b)) (sum ts b) (sum ts b) r (grows b).sum (λ v i j n w h u. (grows b).sum.part i n (f.sum.closed v i j n w h u)) f.sum refl comparison_more refl refl in
       let n = fine_not (negation ts b) f.negation (comparison ts (suc b)) c in
       let a = fine_chain (at ts) and_ops (binary_tree ts) expression_first comparison_more conjunction_more (negation ts) (conjunction ts) refl refl refl refl (λ d. sub_refl _) (λ d. sub_refl _) (sub_refl _) (λ d. (grows d).negation) (λ d. (grows d).conjunction) b n f.negation f.conjunction in
       let o = fine_chain (at ts) or_ops (binary_tree ts) expression_first conjunction_more disjunction_more (conjunction ts) (disjunction ts) refl refl refl refl (λ d. sub_refl _) (λ d. sub_refl _) (sub_refl _) (λ d. (grows d).conjunction) (λ d. (grows d).disjunction) b a f.conjunction f.disjunction in
-      let i = fine_pair (at ts) implies_ops (binary_tree ts) expression_first disjunction_more implication_more (disjunction ts) refl refl refl refl (λ d. (grows d).disjunction) b o f.disjunction in
+      let i = fine_pair (at ts) implies_ops (binary_tree ts) expression_first disjunction_more implication_more (disjunction ts (suc b)) (disjunction ts b) (implication ts b) o (grows b).disjunction (λ v i j n w h u. (grows b).disjunction.part i n (f.disjunction.closed v i j n w h u)) f.implication refl implication_more refl refl in
       let e = fine_chain (at ts) iff_ops (binary_tree ts) expression_first implication_more expression_more (implication ts) (expression ts) refl refl refl refl (λ d. sub_refl _) (λ d. sub_refl _) (sub_refl _) (λ d. (grows d).implication) (λ d. (grows d).expression) b i f.implication f.expression in
       record { primary = p; product = q; sum = r; comparison = c; negation = n; conjunction = a; disjunction = o; implication = i; expression = e }
 

@@ -8,7 +8,7 @@ use Rattle.sp_grammar.proofs.Chains.{Chain}
 use Rattle.sp_grammar.proofs.Pairs.{Pair}
 use Rattle.sp_expression.specs.Contract.{primary_first, expression_first}
 use Rattle.sp_expression.specs.Grammar.{at, binary_tree}
-use Rattle.sp_expression.specs.Levels.{chain_ops, chain_form, operand_form, pair_ops, pair_form, pair_operand}
+use Rattle.sp_expression.specs.Levels.{chain_ops, chain_form, operand_form, pair_ops, pair_form, pair_operand, pair_right}
 use Rattle.sp_expression.specs.declared.level.Chain.{Chain as Level}
 use Rattle.sp_expression.specs.declared.level.Chain.TheVariants as chain
 use Rattle.sp_expression.specs.declared.level.Pair.{Pair as Two}
@@ -112,11 +112,19 @@ module _ (ts : List Token) where
   side_ways pair.Implies = record { fine = λ b. (fine ts b).disjunction; grows = λ b. (grows ts b).disjunction; empty = λ b i. inl (inl (inl (inl refl))) }
   side_ways pair.Comparison = record { fine = λ b. (fine ts b).sum; grows = λ b. (grows ts b).sum; empty = λ b i. inl (inl (inl (inl refl))) }
 
-  pub pair_out : (p : Two) (b : ℕ) → Sub (pair_form ts p (suc b)) (binary (at ts) (pair_ops p) (binary_tree ts) (chain_form ts (pair_operand p) (suc b)) (chain_form ts (pair_operand p) b) (chain_form ts (pair_operand p) b))
+  abbrev pub right_more : Two → List ℕ
+  right_more pair.Implies = implication_more
+  right_more pair.Comparison = sum_more
+
+  pub right_ways : (p : Two) → Ways (at ts) (chain_first (pair_operand p)) (right_more p) (pair_right ts p)
+  right_ways pair.Implies = record { fine = λ b. (fine ts b).implication; grows = λ b. (grows ts b).implication; empty = λ b i. inl (inl (inl (inl (inl refl)))) }
+  right_ways pair.Comparison = side_ways pair.Comparison
+
+  pub pair_out : (p : Two) (b : ℕ) → Sub (pair_form ts p (suc b)) (binary (at ts) (pair_ops p) (binary_tree ts) (chain_form ts (pair_operand p) (suc b)) (chain_form ts (pair_operand p) b) (pair_right ts p b))
   pair_out pair.Implies b = sub_refl _
   pair_out pair.Comparison b = sub_refl _
 
-  pub pair_back : (p : Two) (b : ℕ) → Sub (binary (at ts) (pair_ops p) (binary_tree ts) (chain_form ts (pair_operand p) (suc b)) (chain_form ts (pair_operand p) b) (chain_form ts (pair_operand p) b)) (pair_form ts p (suc b))
+  pub pair_back : (p : Two) (b : ℕ) → Sub (binary (at ts) (pair_ops p) (binary_tree ts) (chain_form ts (pair_operand p) (suc b)) (chain_form ts (pair_operand p) b) (pair_right ts p b)) (pair_form ts p (suc b))
   pair_back pair.Implies b = sub_refl _
   pair_back pair.Comparison b = sub_refl _
 
@@ -134,9 +142,12 @@ module _ (ts : List Token) where
     make = binary_tree ts;
     first = chain_first (pair_operand p);
     more = side_more p;
+    right_more = right_more p;
     operand = chain_form ts (pair_operand p);
+    right = pair_right ts p;
     form = pair_form ts p;
     ways = side_ways p;
+    right_ways = right_ways p;
     clear = side_clear p;
     out = pair_out p;
     back = pair_back p;

@@ -238,7 +238,8 @@ module _ (ts : List Token) where
     pub implication : Lang ExprTree
     pub expression : Lang ExprTree
 
-  -- Each line, where `below` has one less to spend. A chain leans to the left: its left part is a chain.
+  -- Each line, where `below` has one less to spend. A chain leans to the left: its left part is a chain. Implications lean to
+  -- the right: the right part of one is an implication.
   module _ (below : Tier) where
     -- product = primary {"*" primary}
     abbrev pub product_line : Lang ExprTree
@@ -264,9 +265,9 @@ module _ (ts : List Token) where
     abbrev pub disjunction_line : Lang ExprTree
     disjunction_line = binary at or_ops binary_tree conjunction_line below.disjunction below.conjunction
 
-    -- implies = or [IMPLIES or]
+    -- implies = or [IMPLIES implies]
     abbrev pub implication_line : Lang ExprTree
-    implication_line = binary at implies_ops binary_tree disjunction_line below.disjunction below.disjunction
+    implication_line = binary at implies_ops binary_tree disjunction_line below.disjunction below.implication
 
     -- expr = implies {IFF implies}
     abbrev pub expression_line : Lang ExprTree

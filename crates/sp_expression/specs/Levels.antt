@@ -33,7 +33,7 @@ operand_form ts chain.And = negation ts
 operand_form ts chain.Sum = product ts
 operand_form ts chain.Product = primary ts
 
--- the operators of a line with one operator at most
+-- the operators of a line that is an operand, or two parts with an operator between them
 abbrev pub pair_ops : Pair → List ℕ
 pair_ops pair.Implies = implies_ops
 pair_ops pair.Comparison = comparison_ops
@@ -43,7 +43,12 @@ abbrev pub pair_form : List Token → Pair → ℕ → Lang ExprTree
 pair_form ts pair.Implies = implication ts
 pair_form ts pair.Comparison = comparison ts
 
--- what stands at both sides of its operator
+-- its operand, which is also what stands left of its operator
 abbrev pub pair_operand : Pair → Chain
 pair_operand pair.Implies = chain.Or
 pair_operand pair.Comparison = chain.Sum
+
+-- what stands right of its operator
+abbrev pub pair_right : List Token → Pair → ℕ → Lang ExprTree
+pair_right ts pair.Implies = implication ts
+pair_right ts pair.Comparison = sum ts

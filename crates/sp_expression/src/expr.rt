@@ -5,7 +5,7 @@ ghost use Rattle.sp_grammar.specs.Codes.{code_at, left_parenthesis, name_code, q
 ghost use Rattle.sp_lexer.specs.Tokens.{IsUnsigned};
 ghost use Rattle.sp_expression.specs.Contract.{join_code, quant_code, Parses, ParsesArgs};
 ghost use Rattle.sp_expression.specs.Grammar.{at, expression, negation, primary, tree as spanned};
-ghost use Rattle.sp_expression.specs.Levels.{chain_form, operand_form, pair_form};
+ghost use Rattle.sp_expression.specs.Levels.{chain_form, operand_form, pair_form, pair_right};
 ghost use Rattle.sp_expression.specs.Marks.{mark_code};
 
 use crate::build::{binary, choice, join, negate, paren, quantified, tree};
@@ -98,7 +98,7 @@ fn parse_operand(
     }
 }
 
-/// One operator at most, with an operand at each side.
+/// An operand alone, or an operand, an operator and what stands right of it.
 #[cycle(expr)]
 fn parse_pair(
     alloc: Global,
@@ -123,7 +123,7 @@ fn parse_pair(
     if left.height >= budget {
         return Err(too_high(tokens, end, between));
     }
-    let right = parse_chain(alloc, tokens, between + 1, end, budget - 1, side)?;
+    let right = parse_right(alloc, tokens, between + 1, end, budget - 1, pair)?;
     let tree = binary(
         alloc, tokens, between, left.tree, right.tree, start, right.next,
     )?;
@@ -132,6 +132,28 @@ fn parse_pair(
         height: larger(left.height, right.height) + 1,
         next: right.next,
     })
+}
+
+/// What stands right of the operator: an implication goes on, a comparison doesn't.
+#[cycle(expr)]
+fn parse_right(
+    alloc: Global,
+    tokens: &[Token],
+    start: usize,
+    end: u32,
+    budget: u32,
+    pair: Pair,
+) -> Result<Found, TextFault>
+    requires budget { 1 ≤ budget }
+    requires unsigned { All (λ t. IsUnsigned t.kind) tokens.now }
+    ensures reads { Parses (pair_right tokens.now pair) budget tokens.now end start result }
+    ensures moves { IfOk result (λ x. start < x.next) }
+    ensures within { IfOk result (λ x. x.next ≤ length tokens.now) }
+{
+    match pair {
+        Pair::Implies => parse_pair(alloc, tokens, start, end, budget, Pair::Implies),
+        Pair::Comparison => parse_chain(alloc, tokens, start, end, budget, Chain::Sum),
+    }
 }
 
 /// NOT of an operand, or a comparison.

@@ -23,7 +23,7 @@ pub enum Chain {
     Product,
 }
 
-/// A line with one operator at most.
+/// A line that is an operand, or two parts with an operator between them.
 #[derive(Clone, Copy, Debug, PartialEq, Eq)]
 pub enum Pair {
     Implies,
@@ -31,7 +31,7 @@ pub enum Pair {
 }
 
 impl Pair {
-    /// What stands at both sides of its operator.
+    /// Its operand, which is also what stands left of its operator.
     pub fn operand(self) -> Chain
         ensures { result ≡ pair_operand self }
     {

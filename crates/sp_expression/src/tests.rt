@@ -35,9 +35,21 @@ fn too_high(start: u32, end: u32) -> Result<usize, TextFault> {
 }
 
 #[test]
-fn a_comparison_and_an_implication_do_not_chain(rt: HostRuntime) {
+fn a_comparison_does_not_chain(rt: HostRuntime) {
     assert_eq!(rt; count(rt.alloc(), b"x <= y <= z", 64), Ok(3));
-    assert_eq!(rt; count(rt.alloc(), b"a IMPLIES b IMPLIES c", 64), Ok(3));
+}
+
+#[test]
+fn an_implication_leans_to_the_right(rt: HostRuntime) -> Result<(), Fail> {
+    let (tree, next) = read(rt.alloc(), b"a IMPLIES b IMPLIES c", 64)?;
+    assert_eq!(rt; next, 5);
+    let ExprNode::Binary(BinOp::Implies, left, right) = &tree.node else {
+        assert!(rt; false);
+        return Ok(());
+    };
+    assert!(rt; matches!(left.get().node, ExprNode::Name(_)));
+    assert!(rt; matches!(right.get().node, ExprNode::Binary(BinOp::Implies, _, _)));
+    Ok(())
 }
 
 #[test]

@@ -9,7 +9,7 @@ use Rattle.sp_grammar.specs.Codes.{name_code, left_parenthesis, comma, colon, mi
 use Rattle.sp_grammar.proofs.Chains.{Along, chain_begin, chain_first_refuses, chain_stop, chain_step, chain_high, chain_right_refuses}
 use Rattle.sp_grammar.proofs.Pairs.{pair_first_refuses, pair_stop, pair_high, pair_right_refuses, pair_reads}
 use Rattle.sp_expression.specs.Grammar.{at, primary, comparison, negation, expression, binary_tree, not_tree, formal_line, number_line, tree}
-use Rattle.sp_expression.specs.Levels.{chain_form, operand_form, pair_form, pair_operand}
+use Rattle.sp_expression.specs.Levels.{chain_form, operand_form, pair_form, pair_operand, pair_right}
 use Rattle.sp_expression.specs.Marks.{mark_code}
 use Rattle.sp_expression.proofs.Laws.{ident_code}
 use Rattle.sp_expression.proofs.Leaves.{fails_by}
@@ -147,7 +147,7 @@ parse_pair-returns-in_err-right-clause-reads t c =
     let q = c.if-left-budget.false in
     let g : v.height ≤ b - 1 = omega arith in
     let p = err_from_is_err_and c.from_residual-in_err-right.result c.from_residual-in_err-right.ensures.1 in
-    rw (p.1, p.2) (fails_by (chain_form ts G) (pair_form ts P) (b - 1) b ts c.args.end (v.next + 1) i _ (λ r S. subst (λ z. Refuses (pair_form ts P) z i r) (sym e) (pair_right_refuses (at ts) Q b v.height v.tree i v.next M (sym c.if-not-is_pair_operator.ensures) (b - 1) r g (subst (λ z. Refuses (chain_form ts G) (b - 1) z r) f S))) (rw c.operand-side.ensures at c.in_err-right.ensures.reads))
+    rw (p.1, p.2) (fails_by (pair_right ts P) (pair_form ts P) (b - 1) b ts c.args.end (v.next + 1) i _ (λ r S. subst (λ z. Refuses (pair_form ts P) z i r) (sym e) (pair_right_refuses (at ts) Q b v.height v.tree i v.next M (sym c.if-not-is_pair_operator.ensures) (b - 1) r g (subst (λ z. Refuses (pair_right ts P) (b - 1) z r) f S))) c.in_err-right.ensures.reads)
 
 pub parse_pair-returns-clause-reads : goal.parse_pair-returns-clause-reads
 parse_pair-returns-clause-reads t c =
@@ -164,11 +164,11 @@ parse_pair-returns-clause-reads t c =
     let q = c.if-left-budget.false in
     let g : v.height ≤ b - 1 = omega arith in
     let r = c.in_ok-right.right in
-    let N : Measures (chain_form ts G) (b - 1) r.tree r.height (v.next + 1) r.next = rw c.operand-side.ensures at c.in_ok-right.ensures.reads in
+    let N = c.in_ok-right.ensures.reads in
     let h : suc (max v.height r.height) ≡ c.larger.result + 1 = omega (arith, c.larger.ensures) in
     rw c.in_ok-tree.ensures (subst (λ z. Measures (pair_form ts P) z (binary_tree ts (at ts v.next) v.tree r.tree i r.next) (c.larger.result + 1) i r.next) (sym e)
     (subst (λ z. Measures (pair_form ts P) (suc (b - 1)) (binary_tree ts (at ts v.next) v.tree r.tree i r.next) z i r.next) h
-    (pair_reads (at ts) Q b v.height v.tree i v.next M (sym c.if-not-is_pair_operator.ensures) (b - 1) r.height r.next r.tree g (subst (λ z. Measures (chain_form ts G) (b - 1) r.tree r.height z r.next) f N))))
+    (pair_reads (at ts) Q b v.height v.tree i v.next M (sym c.if-not-is_pair_operator.ensures) (b - 1) r.height r.next r.tree g (subst (λ z. Measures (pair_right ts P) (b - 1) r.tree r.height z r.next) f N))))
 
 pub parse_not-returns-then-not-is-clause-reads : goal.parse_not-returns-then-not-is-clause-reads
 parse_not-returns-then-not-is-clause-reads t c =

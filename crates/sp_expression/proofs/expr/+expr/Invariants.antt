@@ -22,6 +22,9 @@ decreases-parse_operand l = 17 * l.budget + chain_rank l.chain
 abbrev pub decreases-parse_pair : goal.decreases-parse_pair
 decreases-parse_pair l = 17 * l.budget + pair_rank l.pair
 
+abbrev pub decreases-parse_right : goal.decreases-parse_right
+decreases-parse_right l = 17 * l.budget + 13
+
 abbrev pub decreases-parse_not : goal.decreases-parse_not
 decreases-parse_not l = 17 * l.budget + 7
 

@@ -1,1 +1,5 @@
 pub mod Classes
+pub mod Firsts
+pub mod Limits
+pub mod Rules
+pub mod Violations

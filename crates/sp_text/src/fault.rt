@@ -13,8 +13,8 @@ pub struct Span {
 
 /// A rule of texts or of specifications, named as it is printed.
 ///
-/// The first twenty-nine are the rules of well-formedness, in the order in which they count where two stand at one
-/// place. Those that speak of two levels carry their numbers.
+/// The first thirty are the rules of well-formedness, in the order in which they count where two stand at one place.
+/// Those that speak of two levels carry their numbers.
 #[derive(Clone, Copy, Debug, PartialEq, Eq)]
 pub enum Rule {
     WrongName,
@@ -46,6 +46,7 @@ pub enum Rule {
     NotVisible,
     LatticeDiffers,
     NoMapping,
+    NewValueCycle,
     BadByte,
     OpenComment,
     NumberTooLarge,

@@ -1,12 +1,12 @@
 -- The first of a list by an order: it stands in the list and none stands before it, and the first of two lists is had from
 -- the first of each. For all that judges.
-use Rattle.std.proofs.Common.{◌≡◌, refl, sym, subst, ◌∙◌, ap, rules, arith, ℕ, List, [], ◌∷◌, ◌++◌, map, Bool, true, false, Option, Some, None}
+use Rattle.std.proofs.Common.{◌≡◌, refl, sym, subst, ◌∙◌, ap, rules, arith, ℕ, List, [], ◌∷◌, ◌++◌, Bool, true, false, Option, Some, None}
 use Rattle.std.specs.Prelude.{if◌then◌else◌, slice_index_or, ◌||◌, ◌&&◌, nat_lt, nat_eq}
 use Rattle.std.specs.List.{All, Contains}
 use Rattle.std.proofs.lemmas.List.Elements.{All-cons, All-nil, Contains-append_left, Contains-append_right, Contains-push}
 use Rattle.sp_text.specs.declared.violation.FileViolation.{FileViolation}
 use Rattle.sp_text.specs.declared.violation.Violation.{Violation}
-use Rattle.sp_text.specs.Firsts.{behind, earlier_by, earliest_by, first_by}
+use Rattle.sp_text.specs.Firsts.{earlier_by, earliest_by, first_by}
 use Rattle.sp_text.specs.Violations.{first, first_in_files, in_file, number_of, sooner, sooner_in_files}
 
 -- an order by which two may stand alike: 'before', and 'not before', carry over

@@ -1,6 +1,6 @@
 -- The rules and limits that texts break, as lists, and what an answer is by them: it comes exactly where the list is empty,
 -- and else a refusal names the first of the list. For all that judges texts.
-use Rattle.std.specs.Prelude.{◌≡◌, Result, Ok, Err, ℕ, ◌+◌, List, [], ◌∷◌, map, Bool, Option, Some, None, nat_lt, nat_eq, ◌&&◌, ◌||◌}
+use Rattle.std.specs.Prelude.{◌≡◌, Result, Ok, Err, ℕ, ◌+◌, List, [], ◌∷◌, map, Bool, Option, Some, nat_lt, nat_eq, ◌&&◌, ◌||◌}
 use Rattle.sp_text.specs.declared.fault.Quantity.{Quantity}
 use Rattle.sp_text.specs.declared.fault.Rule.{Rule}
 use Rattle.sp_text.specs.declared.fault.Span.{Span}

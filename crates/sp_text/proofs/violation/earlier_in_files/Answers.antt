@@ -1,4 +1,4 @@
-use Rattle.std.proofs.Common.{◌∙◌, sym}
+use Rattle.std.proofs.Common.{◌∙◌}
 use Rattle.sp_text.proofs.Firsts.{first_in_files_of_both}
 use Rattle.sp_text.proofs.violation.earlier_in_files.Goals as goal
 

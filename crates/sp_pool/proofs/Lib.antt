@@ -1,6 +1,7 @@
-pub mod Held
-pub mod Indexes
-pub mod Numbers
-pub mod Pigeons
-pub mod Regions
-pub mod Spellings
+mod Held
+mod Indexes
+pub mod NodeLaws
+mod Pigeons
+mod Regions
+mod Spellings
+pub mod TreeLaws

@@ -1,5 +1,5 @@
 -- The nodes that a pool holds, in the order of their numbers. For the layers that number the terms of a formula.
-use Rattle.std.specs.Prelude.{◌≡◌, ℕ, ◌<◌, ◌≤◌, Bool, true, false, List, length, replicate, slice_get, slice_index_or, Some}
+use Rattle.std.specs.Prelude.{◌≡◌, ℕ, ◌<◌, ◌≤◌, ◌⊎◌, ◌++◌, ◌∷◌, [], Bool, true, false, List, length, replicate, slice_get, slice_index_or, Some}
 use Rattle.sp_values.specs.declared.value.Value.TheVariants.{Truth}
 use Rattle.sp_pool.specs.declared.node.TermId.{TermId}
 use Rattle.sp_pool.specs.declared.node.Node.{Node}
@@ -18,6 +18,10 @@ HasNode nodes i n = slice_get nodes i ≡ Some n
 
 abbrev pub IsHeld : List Node → Node → Type 0
 IsHeld nodes n = (i : ℕ) × HasNode nodes i n
+
+-- the nodes are as they were, or this one stands behind them
+abbrev pub IsGrown : List Node → Node → List Node → Type 0
+IsGrown old n new = (new ≡ old) ⊎ (new ≡ old ++ n ∷ [])
 
 -- the constant's node
 abbrev pub truth_node : Bool → Node

@@ -1,5 +1,5 @@
 -- The tree that a number of a pool stands for: its head over the trees of its arguments. For the laws of pools.
-use Rattle.std.specs.Prelude.{◌≡◌, ℕ, ◌+◌, ◌<◌, List, length}
+use Rattle.std.specs.Prelude.{◌≡◌, ℕ, ◌+◌, ◌<◌, ◌↔◌, List, ◌++◌, length, take}
 use Rattle.sp_pool.specs.declared.node.Node.{Node}
 use Rattle.sp_pool.specs.declared.node.Head.{Head}
 use Rattle.sp_pool.specs.Nodes.{HasNode, IsPool, arg_of}
@@ -22,6 +22,10 @@ abbrev mutual
   AllStand nodes n k none = n.count ≡ k
   AllStand nodes n k (more t ts) = (k < n.count) × Stands nodes (arg_of n k) t × AllStand nodes n (k + 1) ts
 
+-- the numbers below a bound stand for the same trees in two lists of nodes
+abbrev pub KeepsTrees : ℕ → List Node → List Node → Type 0
+KeepsTrees bound old new = (i : ℕ) (t : Tree) → i < bound → (Stands old i t ↔ Stands new i t)
+
 -- the law: a held number stands for one tree
 abbrev pub OneTree : Type 0
 OneTree =
@@ -31,3 +35,11 @@ OneTree =
 -- the law: equal trees have one number
 abbrev pub OneNumber : Type 0
 OneNumber = (nodes : List Node) → IsPool nodes → (t : Tree) (i j : ℕ) → Stands nodes i t → Stands nodes j t → i ≡ j
+
+-- the law: numbers keep their trees where nodes come behind a pool's
+abbrev pub LongerKeepsTrees : Type 0
+LongerKeepsTrees = (nodes others : List Node) → IsPool nodes → KeepsTrees (length nodes) nodes (nodes ++ others)
+
+-- the law: numbers keep their trees where a pool's last nodes are given up
+abbrev pub FrontKeepsTrees : Type 0
+FrontKeepsTrees = (nodes : List Node) (m : ℕ) → IsPool nodes → KeepsTrees m nodes (take m nodes)

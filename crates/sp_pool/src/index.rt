@@ -1,39 +1,39 @@
-//! The index of a region's records, by their words.
+//! The index of a region's records by the hash of their words: a ring of slots, probed from the hash on.
 
 ghost use Rattle.std.specs.Prelude.{◌≡◌, ◌+◌, ◌<◌, ◌≤◌, ◌↔◌, [], IfOk, IsTrue, Some, length, take};
-ghost use Rattle.sp_pool.specs.Index.{IsIndex, IsLookup, number_in, start_of};
+ghost use Rattle.sp_pool.specs.Index.{IsIndex, IsLookup, hash, number_in};
 
 use crate::region::Region;
 use sp_text::Memory;
 use std::alloc::Global;
 
-/// How many places an index has.
-pub const PLACES: usize = 1024;
+/// How many slots an index has, twice as many as a pool has nodes.
+pub const SLOTS: usize = 1024;
 
-/// What looking for words tells: the number of the record that has them, or the place where one is to stand.
+/// What looking for words tells: the number of the record that has them, or the vacant slot where one is to stand.
 #[derive(Clone, Copy)]
 pub enum Lookup {
-    Held(u16),
-    Free(usize),
+    Occupied(u16),
+    Vacant(usize),
 }
 
 /// The index of no records.
 pub fn empty(alloc: Global) -> Result<Vec<Option<u16>>, Memory>
-    ensures { IfOk result (λ places. IsIndex [] places.items) }
+    ensures { IfOk result (λ slots. IsIndex [] slots.items) }
 {
-    Ok(vec![in alloc; None; PLACES]?)
+    Ok(vec![in alloc; None; SLOTS]?)
 }
 
-/// The place from which a record of these words is sought.
-fn start_of(words: &[u32]) -> usize
-    ensures start { result ≡ start_of words.now }
+/// The hash of words: the slot that the first probe looks at.
+fn hash(words: &[u32]) -> usize
+    ensures hash { result ≡ hash words.now }
     ensures within { result < 1024 }
 {
-    let mut start: u64 = 0;
+    let mut hash: u64 = 0;
     for word in words {
-        start = (start * 33 + u64::from(*word)) % 1024;
+        hash = (hash * 33 + u64::from(*word)) % 1024;
     }
-    start as usize
+    hash as usize
 }
 
 fn is_same(words: &[u32], others: &[u32]) -> bool
@@ -43,49 +43,49 @@ fn is_same(words: &[u32], others: &[u32]) -> bool
 }
 
 /// Looks for a record of these words.
-pub fn look_up(places: &[Option<u16>], region: &Region, words: &[u32]) -> Lookup
-    requires index { IsIndex region.now.records places.now }
+pub fn look_up(slots: &[Option<u16>], region: &Region, words: &[u32]) -> Lookup
+    requires index { IsIndex region.now.records slots.now }
     requires few { length region.now.records ≤ 512 }
-    ensures { IsLookup region.now.records places.now words.now result }
+    ensures { IsLookup region.now.records slots.now words.now result }
 {
-    let start = start_of(words);
-    for step in 0..PLACES {
-        let place = (start + step) % PLACES;
-        let Some(number) = places[place] else {
-            return Lookup::Free(place);
+    let hash = hash(words);
+    for step in 0..SLOTS {
+        let slot = (hash + step) % SLOTS;
+        let Some(number) = slots[slot] else {
+            return Lookup::Vacant(slot);
         };
         if is_same(region.record(number as u32), words) {
-            return Lookup::Held(number);
+            return Lookup::Occupied(number);
         }
     }
     unreachable!()
 }
 
-/// The place of the last of the first records.
-fn place_of(places: &[Option<u16>], region: &Region, number: u16) -> usize
+/// The slot of the last of the first records.
+fn slot_of(slots: &[Option<u16>], region: &Region, number: u16) -> usize
     requires held { number < length region.now.records }
-    requires index { IsIndex (take (number + 1) region.now.records) places.now }
-    ensures { number_in places.now result ≡ Some number }
+    requires index { IsIndex (take (number + 1) region.now.records) slots.now }
+    ensures { number_in slots.now result ≡ Some number }
 {
-    let start = start_of(region.record(number as u32));
-    for step in 0..PLACES {
-        let place = (start + step) % PLACES;
-        if places[place] == Some(number) {
-            return place;
+    let hash = hash(region.record(number as u32));
+    for step in 0..SLOTS {
+        let slot = (hash + step) % SLOTS;
+        if slots[slot] == Some(number) {
+            return slot;
         }
     }
     unreachable!()
 }
 
-/// Frees the places of the records from the mark on, the last one first.
-pub fn release(places: &mut [Option<u16>], region: &Region, mark: u16)
-    requires index { IsIndex region.now.records places.old }
+/// Vacates the slots of the records from the mark on, the last one first.
+pub fn release(slots: &mut [Option<u16>], region: &Region, mark: u16)
+    requires index { IsIndex region.now.records slots.old }
     requires few { length region.now.records ≤ 512 }
     requires held { mark ≤ length region.now.records }
-    ensures { IsIndex (take mark region.now.records) places.new }
+    ensures { IsIndex (take mark region.now.records) slots.new }
 {
     for number in (mark..region.count() as u16).rev() {
-        let place = place_of(places, region, number);
-        places[place] = None;
+        let slot = slot_of(slots, region, number);
+        slots[slot] = None;
     }
 }

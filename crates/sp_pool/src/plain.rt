@@ -6,7 +6,7 @@ use sp_text::Memory;
 use std::alloc::Global;
 use std::marker::Model;
 
-/// A pool as a list that is looked through from the front, with the contract of `Pool`, to compare that with.
+/// A pool as a list that is looked through from the front, to compare `Pool` with.
 #[derive(Drop)]
 pub struct PlainPool {
     nodes: Vec<Node>,

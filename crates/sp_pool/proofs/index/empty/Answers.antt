@@ -4,5 +4,5 @@ use Rattle.sp_pool.proofs.index.empty.Goals as goal
 
 pub returns : goal.returns
 returns c =
-    let places : c.in_ok-vec.field-0.items ≡ replicate 1024 None = c.in_ok-vec.ensures.items_if_clones_equal (λ y e. search rules) in
-    rw places empty_index
+    let slots : c.in_ok-vec.field-0.items ≡ replicate 1024 None = c.in_ok-vec.ensures.items_if_clones_equal (λ y e. search rules) in
+    rw slots empty_index

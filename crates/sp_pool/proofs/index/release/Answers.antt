@@ -1,7 +1,7 @@
 use Rattle.std.proofs.Common.{◌≡◌, ◌+◌, ◌-◌, take, subst, arith}
 use Rattle.std.proofs.lemmas.List.{take_all}
 use Rattle.sp_pool.specs.Index.{IsIndex}
-use Rattle.sp_pool.proofs.Indexes.{freed}
+use Rattle.sp_pool.proofs.Indexes.{vacated}
 use Rattle.sp_pool.proofs.index.release.Goals as goal
 
 pub loop-number-init : goal.loop-number-init
@@ -15,11 +15,11 @@ loop-number-preserved c =
     let after : c.loop-number.number ≡ n + 1 = omega arith in
     record {
       low = omega arith;
-      index = freed c.args.region.now.records c.loop-number.places n (omega (arith, c.count-number.ensures, c.loop-number.auto.number))
-          (subst (λ m. IsIndex (take m c.args.region.now.records) c.loop-number.places) after c.loop-number.invariant.index) c.place_of-place.result c.place_of-place.ensures;
+      index = vacated c.args.region.now.records c.loop-number.slots n (omega (arith, c.count-number.ensures, c.loop-number.auto.number))
+          (subst (λ m. IsIndex (take m c.args.region.now.records) c.loop-number.slots) after c.loop-number.invariant.index) c.slot_of-slot.result c.slot_of-slot.ensures;
     }
 
 pub returns : goal.returns
 returns c =
     let same : c.loop-number.number ≡ c.args.mark = omega arith in
-    subst (λ m. IsIndex (take m c.args.region.now.records) c.loop-number.places) same c.loop-number.invariant.index
+    subst (λ m. IsIndex (take m c.args.region.now.records) c.loop-number.slots) same c.loop-number.invariant.index

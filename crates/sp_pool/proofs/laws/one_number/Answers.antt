@@ -1,4 +1,4 @@
-use Rattle.sp_pool.proofs.Numbers.{one_number}
+use Rattle.sp_pool.proofs.TreeLaws.{one_number}
 use Rattle.sp_pool.proofs.laws.one_number.Goals as goal
 
 pub returns : goal.returns

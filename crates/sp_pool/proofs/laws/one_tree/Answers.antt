@@ -1,4 +1,4 @@
-use Rattle.sp_pool.proofs.Numbers.{one_tree}
+use Rattle.sp_pool.proofs.TreeLaws.{one_tree}
 use Rattle.sp_pool.proofs.laws.one_tree.Goals as goal
 
 pub returns : goal.returns

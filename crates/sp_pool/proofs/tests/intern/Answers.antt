@@ -1,5 +1,5 @@
 use Rattle.std.proofs.Common.{refl, inl, length, arith}
-use Rattle.sp_pool.proofs.Held.{plain_node}
+use Rattle.sp_pool.proofs.NodeLaws.{plain_node}
 use Rattle.sp_pool.proofs.tests.intern.Goals as goal
 
 pub intern-requires : goal.intern-requires

@@ -1,6 +1,6 @@
 use Rattle.std.proofs.Common.{◌≡◌, ◌<◌, ◌++◌, ◌∷◌, [], length, ◌∙◌, arith, rules}
 use Rattle.sp_pool.specs.Nodes.{IsHeld, IsNode}
-use Rattle.sp_pool.proofs.Held.{two, pool_more, get_last}
+use Rattle.sp_pool.proofs.NodeLaws.{two, pool_more, get_last}
 use Rattle.sp_pool.proofs.plain.PlainPool.intern.Goals as goal
 
 pub invariant_of-self : goal.invariant_of-self

@@ -1,5 +1,5 @@
 use Rattle.std.proofs.Common.{arith}
-use Rattle.sp_pool.proofs.Held.{two, pool_less}
+use Rattle.sp_pool.proofs.NodeLaws.{two, pool_less}
 use Rattle.sp_pool.proofs.plain.PlainPool.release.Goals as goal
 
 pub invariant_of-self : goal.invariant_of-self

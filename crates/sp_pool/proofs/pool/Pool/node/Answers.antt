@@ -12,8 +12,8 @@ node_of-requires-clause-some c = some_words c.record.result.now (c.self.invarian
 pub node_of-requires-clause-few : goal.node_of-requires-clause-few
 node_of-requires-clause-few c = few_words c.record.result.now (c.self.invariant.spelled c.args.t.0 c.record.result.now c.record.ensures)
 
-pub returns : goal.returns
-returns c =
+pub returns-clause-node : goal.returns-clause-node
+returns-clause-node c =
     ap (λ nodes. slice_get nodes c.args.t.0) (sym c.self.view_is)
     ∙ slice_get-map node_of c.self.inside.region.records c.args.t.0
     ∙ ap (option_map node_of) c.record.ensures

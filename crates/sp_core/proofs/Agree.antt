@@ -11,32 +11,7 @@ use Rattle.sp_values.specs.Domains.{proper_values}
 use Rattle.sp_core.specs.Tree.{Tree, Trees, Const, Var, Not, Two, If, Param, Look, Every, New, none, more}
 use Rattle.sp_core.specs.Values.{World, Reads, is_true, two, value_of, values_of}
 use Rattle.sp_core.specs.Measures.{LooksAt, LookAt, Nothing}
-
--- whether the right side of an operator matters, by the left one
-abbrev pub Matters : Op → Bool → Type 0
-Matters op.And b = b ≡ true
-Matters op.Or b = b ≡ false
-Matters o b = Unit {0}
-
--- Sees holds at each V-function that the value depends on, with the values of its arguments
-abbrev mutual
-  pub Below : World → Reads → Reads → (ℕ → List Value → Type 0) → List Value → Tree → Type 0
-  Below w old new Sees x (Const v) = Unit {0}
-  Below w old new Sees x (Var k) = Unit {0}
-  Below w old new Sees x (Not a) = Below w old new Sees x a
-  Below w old new Sees x (Two o a b) = Below w old new Sees x a × (Matters o (is_true (value_of w old new x a)) → Below w old new Sees x b)
-  Below w old new Sees x (If c a b) =
-      Below w old new Sees x c
-      × (is_true (value_of w old new x c) ≡ true → Below w old new Sees x a)
-      × (is_true (value_of w old new x c) ≡ false → Below w old new Sees x b)
-  Below w old new Sees x (Param p ds) = Belows w old new Sees x ds
-  Below w old new Sees x (Look g ds) = Belows w old new Sees x ds × Sees g (values_of w old new x ds)
-  Below w old new Sees x (Every k t b) = (c : Value) → Contains (proper_values w.sizes t) c → Below w old new Sees (take k x ++ c ∷ []) b
-  Below w old new Sees x (New g ds) = Belows w old new Sees x ds × Sees g (values_of w old new x ds)
-
-  pub Belows : World → Reads → Reads → (ℕ → List Value → Type 0) → List Value → Trees → Type 0
-  Belows w old new Sees x none = Unit {0}
-  Belows w old new Sees x (more d ds) = Below w old new Sees x d × Belows w old new Sees x ds
+use Rattle.sp_core.specs.Reading.{DependOn, DependsOn, Matters}
 
 and_same : (p : Bool) (b c : Value) → (p ≡ true → b ≡ c) → value.Truth (p && is_true b) ≡ value.Truth (p && is_true c)
 and_same true b c h = ap (λ v. value.Truth (is_true v)) (h refl)
@@ -72,7 +47,7 @@ module _ (w : World) (r new s ns : Reads) (OK NewOK : ℕ → Type 0) (Sees : �
     (agree_new : (g : ℕ) (v : List Value) → NewOK g → Sees g v → new g v ≡ ns g v)
   where
     mutual
-      pub value_same : (e : Tree) (x : List Value) → LooksAt OK NewOK e → Below w r new Sees x e → value_of w r new x e ≡ value_of w s ns x e
+      pub value_same : (e : Tree) (x : List Value) → LooksAt OK NewOK e → DependsOn w r new Sees x e → value_of w r new x e ≡ value_of w s ns x e
       value_same (Const v) x ok h = refl
       value_same (Var k) x ok h = refl
       value_same (Not a) x ok h = ap (λ v. value.Truth (not (is_true v))) (value_same a x ok h)
@@ -89,13 +64,13 @@ module _ (w : World) (r new s ns : Reads) (OK NewOK : ℕ → Type 0) (Sees : �
           (All-weaker (Contains (proper_values w.sizes t)) (λ c. is_true (value_of w r new (take k x ++ c ∷ []) b) ≡ is_true (value_of w s ns (take k x ++ c ∷ []) b)) (λ c m. ap is_true (value_same b (take k x ++ c ∷ []) ok (h c m))) (proper_values w.sizes t) (All-contains_itself (proper_values w.sizes t))))
       value_same (New g ds) x ok h = agree_new g (values_of w r new x ds) ok.0 h.1 ∙ ap (ns g) (values_same ds x ok.1 h.0)
 
-      pub values_same : (ds : Trees) (x : List Value) → LookAt OK NewOK ds → Belows w r new Sees x ds → values_of w r new x ds ≡ values_of w s ns x ds
+      pub values_same : (ds : Trees) (x : List Value) → LookAt OK NewOK ds → DependOn w r new Sees x ds → values_of w r new x ds ≡ values_of w s ns x ds
       values_same none x ok h = refl
       values_same (more d ds) x ok h = λ i. value_same d x ok.0 h.0 i ∷ values_same ds x ok.1 h.1 i
 
 -- each reference is seen where everything is
 mutual
-  all_below : (w : World) (r new : Reads) (e : Tree) (x : List Value) → Below w r new (λ g v. Unit {0}) x e
+  all_below : (w : World) (r new : Reads) (e : Tree) (x : List Value) → DependsOn w r new (λ g v. Unit {0}) x e
   all_below w r new (Const v) x = tt
   all_below w r new (Var k) x = tt
   all_below w r new (Not a) x = all_below w r new a x
@@ -106,7 +81,7 @@ mutual
   all_below w r new (Every k t b) x = λ c m. all_below w r new b (take k x ++ c ∷ [])
   all_below w r new (New g ds) x = (all_belows w r new ds x, tt)
 
-  all_belows : (w : World) (r new : Reads) (ds : Trees) (x : List Value) → Belows w r new (λ g v. Unit {0}) x ds
+  all_belows : (w : World) (r new : Reads) (ds : Trees) (x : List Value) → DependOn w r new (λ g v. Unit {0}) x ds
   all_belows w r new none x = tt
   all_belows w r new (more d ds) x = (all_below w r new d x, all_belows w r new ds x)
 

@@ -6,6 +6,7 @@ pub mod Security
 pub mod States
 pub mod Typing
 pub mod Measures
+pub mod Reading
 pub mod Parts
 pub mod WellFormed
 pub mod Instances

@@ -1,5 +1,5 @@
 -- An expression has one value over two readings that agree at its references.
-use Rattle.std.proofs.Common.{◌≡◌, refl, ◌∙◌, ap, ℕ, Bool, true, false, ◌&&◌, ◌||◌, not, List, [], ◌∷◌, ◌++◌, take}
+use Rattle.std.proofs.Common.{◌≡◌, refl, sym, ◌∙◌, ap, ℕ, Bool, true, false, ◌&&◌, ◌||◌, not, List, [], ◌∷◌, ◌++◌, take}
 use Rattle.std.specs.Prelude.{if◌then◌else◌}
 use Rattle.std.specs.List.{list_all, All, Contains}
 use Rattle.std.proofs.lemmas.List.Elements.{All-head, All-tail, All-contains_itself, All-weaker}
@@ -9,8 +9,10 @@ use Rattle.sp_values.specs.declared.value.Op.{Op}
 use Rattle.sp_values.specs.declared.value.Op.TheVariants as op
 use Rattle.sp_values.specs.Domains.{proper_values}
 use Rattle.sp_core.specs.Tree.{Tree, Trees, Const, Var, Not, Two, If, Param, Look, Every, New, none, more}
-use Rattle.sp_core.specs.Values.{World, Reads, is_true, two, value_of, values_of}
-use Rattle.sp_core.specs.Measures.{LooksAt, LookAt, Nothing}
+use Rattle.sp_core.specs.Machine.{Machine}
+use Rattle.sp_core.specs.Security.{Alike, IsLow}
+use Rattle.sp_core.specs.Values.{World, Reads, Store, is_true, look, two, value_of, value_over, values_of}
+use Rattle.sp_core.specs.Measures.{Anything, LooksAt, LookAt, Nothing}
 use Rattle.sp_core.specs.Reading.{DependOn, DependsOn, Matters}
 
 and_same : (p : Bool) (b c : Value) → (p ≡ true → b ≡ c) → value.Truth (p && is_true b) ≡ value.Truth (p && is_true c)
@@ -88,3 +90,41 @@ mutual
 -- over readings that agree wherever e looks, e has one value
 pub value_agrees : (w : World) (r new s ns : Reads) (OK : ℕ → Type 0) → ((g : ℕ) (v : List Value) → OK g → r g v ≡ s g v) → (e : Tree) (x : List Value) → LooksAt OK Nothing e → value_of w r new x e ≡ value_of w s ns x e
 value_agrees w r new s ns OK agree e x ok = value_same w r new s ns OK Nothing (λ g v. Unit {0}) (λ g v o u. agree g v o) (λ g v o u. absurd o) e x ok (all_below w r new e x)
+
+-- an expression that reads no new value has one value over whatever new state
+pub value_no_new : (w : World) (r new other : Reads) (e : Tree) (x : List Value) → LooksAt Anything Nothing e → value_of w r new x e ≡ value_of w r other x e
+value_no_new w r new other e x ok = value_agrees w r new r other Anything (λ g v o. refl) e x ok
+
+pub values_no_new : (w : World) (r new other : Reads) (ds : Trees) (x : List Value) → LookAt Anything Nothing ds → values_of w r new x ds ≡ values_of w r other x ds
+values_no_new w r new other none x ok = refl
+values_no_new w r new other (more d ds) x ok = λ i. value_no_new w r new other d x ok.0 i ∷ values_no_new w r new other ds x ok.1 i
+
+-- every expression looks at functions
+mutual
+  pub looks_anywhere : (e : Tree) → LooksAt Anything Anything e
+  looks_anywhere (Const v) = tt
+  looks_anywhere (Var k) = tt
+  looks_anywhere (Not a) = looks_anywhere a
+  looks_anywhere (Two o a b) = (looks_anywhere a, looks_anywhere b)
+  looks_anywhere (If c a b) = (looks_anywhere c, looks_anywhere a, looks_anywhere b)
+  looks_anywhere (Param p ds) = look_anywhere ds
+  looks_anywhere (Look g ds) = (tt, look_anywhere ds)
+  looks_anywhere (Every k t b) = looks_anywhere b
+  looks_anywhere (New g ds) = (tt, look_anywhere ds)
+
+  pub look_anywhere : (ds : Trees) → LookAt Anything Anything ds
+  look_anywhere none = tt
+  look_anywhere (more d ds) = (looks_anywhere d, look_anywhere ds)
+
+-- an expression that depends on places at or below a level alone has one value over pairs of states that are alike there
+pub alike_values : (m : Machine) (l : ℕ) (s u t v : Store) → Alike m l s t → Alike m l u v → (x : List Value) (e : Tree) → DependsOn m.world (look m.world m.functions s) (look m.world m.functions u) (IsLow m l) x e
+    → value_over m.world m.functions s u x e ≡ value_over m.world m.functions t v x e
+alike_values m l s u t v alike new_alike x e low =
+    value_same m.world (look m.world m.functions s) (look m.world m.functions u) (look m.world m.functions t) (look m.world m.functions v) Anything Anything (IsLow m l) (λ g v o h. alike.same g v h) (λ g v o h. new_alike.same g v h) e x (looks_anywhere e) low
+
+-- being alike goes back and on
+pub Alike-sym : (m : Machine) (l : ℕ) (s t : Store) → Alike m l s t → Alike m l t s
+Alike-sym m l s t h = record { same = λ g v low. sym (h.same g v low) }
+
+pub Alike-trans : (m : Machine) (l : ℕ) (s t u : Store) → Alike m l s t → Alike m l t u → Alike m l s u
+Alike-trans m l s t u h k = record { same = λ g v low. h.same g v low ∙ k.same g v low }

@@ -1,5 +1,6 @@
 pub mod Tree
 pub mod Effects
+pub mod Ranks
 pub mod Values
 pub mod Machine
 pub mod Security

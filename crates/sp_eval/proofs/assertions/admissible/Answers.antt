@@ -21,19 +21,27 @@ holds_for_all-requires c =
     assertion_ready c.new-evaluator.result _ c.new-evaluator.ensures.value c.index-assertions-index.result c.items.result.now c.items.ensures c.new-none.result (c.new-none.ensures ∙ c.new.ensures)
     (at_index (IsAssertion (signature c.args.spec.now)) c.args.spec.now.assertions c.loop-index.index c.index-assertions-index.result c.assertions-assertions.ensures.well_formed.assertions there)
 
-pub returns-then-not-holds_for_all-clause-first : goal.returns-then-not-holds_for_all-clause-first
-returns-then-not-holds_for_all-clause-first c =
+pub returns-then-not-holds_for_all : goal.returns-then-not-holds_for_all
+returns-then-not-holds_for_all c =
     let there = listed c.assertions-assertions.result.now c.args.spec.now.assertions c.loop-index.index c.index-assertions-index.result c.assertions-assertions.ensures.value c.loop-index-test.true c.index-assertions-index.is in
-    let fails : HoldsForAll (world c.new-evaluator.result) (types_of c.items.result.now) c.new-none.result (tree c.index-assertions-index.result.body) → ⊥ = λ all. true≢false (sym (c.holds_for_all.ensures.1 all) ∙ c.if-not-holds_for_all.true) in (
-      c.loop-index.index,
-      c.index-assertions-index.result,
-      record {
-        number = refl;
-        there = there;
-        is_false = not_asserted c.new-evaluator.result _ c.new-evaluator.ensures.value c.index-assertions-index.result c.items.result.now c.items.ensures c.new-none.result (c.new-none.ensures ∙ c.new.ensures) fails;
-        earlier = λ j b l k. c.loop-index.invariant j l b k;
-      },
-    )
+    let fails : HoldsForAll (world c.new-evaluator.result) (types_of c.items.result.now) c.new-none.result (tree c.index-assertions-index.result.body) → ⊥ = λ all. true≢false (sym (c.holds_for_all.ensures.1 all) ∙ c.if-not-holds_for_all.true) in
+    let is_false = not_asserted c.new-evaluator.result _ c.new-evaluator.ensures.value c.index-assertions-index.result c.items.result.now c.items.ensures c.new-none.result (c.new-none.ensures ∙ c.new.ensures) fails in
+    record {
+      ok = (
+        λ e. absurd (true≢false (sym e)),
+        λ all. absurd (is_false (at_index (IsAsserted (world_of c.args.spec.now (filling_of c.args.inst.now))) c.args.spec.now.assertions c.loop-index.index c.index-assertions-index.result all there)),
+      );
+      first = (
+        c.loop-index.index,
+        c.index-assertions-index.result,
+        record {
+          number = refl;
+          there = there;
+          is_false = is_false;
+          earlier = λ j b l k. c.loop-index.invariant j l b k;
+        },
+      );
+    }
 
 pub loop-index-preserved : goal.loop-index-preserved
 loop-index-preserved c =

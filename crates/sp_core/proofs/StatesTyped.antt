@@ -105,7 +105,7 @@ AreTyped-under sg xs c (a ∷ as') h =
     let k = h.0.2 in
     ((h.0.0, h.0.1, record { function = k.function; primitive = k.primitive; args = k.args; args_no_new = k.args_no_new; value = k.value; value_no_new = k.value_no_new }), AreTyped-under sg xs c as' h.1)
 
-append_assoc : (xs : List Ty) (u : Ty) (vs : List Ty) → (xs ++ u ∷ []) ++ vs ≡ xs ++ (u ∷ vs)
+pub append_assoc : (xs : List Ty) (u : Ty) (vs : List Ty) → (xs ++ u ∷ []) ++ vs ≡ xs ++ (u ∷ vs)
 append_assoc [] u vs = refl
 append_assoc (x ∷ xs) u vs = ap (λ ys. x ∷ ys) (append_assoc xs u vs)
 
@@ -122,7 +122,7 @@ arguments_have sg xs none (t ∷ ts) h = absurd h
 arguments_have sg xs (more d ds) [] h = absurd h
 arguments_have sg xs (more d ds) (t ∷ ts) h = let r = arguments_have sg xs ds ts h.1 in ((h.0.typed, r.0), (h.0.no_new, r.1))
 
-append_nothing : (xs : List Ty) → xs ≡ xs ++ []
+pub append_nothing : (xs : List Ty) → xs ≡ xs ++ []
 append_nothing [] = refl
 append_nothing (x ∷ xs) = ap (λ ys. x ∷ ys) (append_nothing xs)
 
@@ -142,20 +142,20 @@ mutual
   all_changes_typed sg r xs effect.none h = tt
   all_changes_typed sg r xs (effect.more w ws) h = AreTyped-append sg xs (changes w) (changes_in ws) (changes_typed sg r xs w h.0) (all_changes_typed sg r xs ws h.1)
 
-kind_typed : (sg : Signature) (xs : List Ty) (g : ℕ) (k : Kind) → IsKind sg xs g k → AreTyped sg xs (changes_in (effect_trees k))
+pub kind_typed : (sg : Signature) (xs : List Ty) (g : ℕ) (k : Kind) → IsKind sg xs g k → AreTyped sg xs (changes_in (effect_trees k))
 kind_typed sg xs g (kind.Primitive t e) h = tt
 kind_typed sg xs g (kind.Derived t e) h = tt
 kind_typed sg xs g (kind.Operation es) h = all_changes_typed sg None xs (effect_trees (kind.Operation es)) h.effects.effects
 kind_typed sg xs g (kind.Both t es) h = all_changes_typed sg (Some t) xs (effect_trees (kind.Both t es)) h.effects.effects
 
-one_typed : (sg : Signature) (xs : List Ty) (as' : List GuardedChange) (a : GuardedChange) → AreTyped sg xs as' → Contains as' a → IsTyped sg xs a
+pub one_typed : (sg : Signature) (xs : List Ty) (as' : List GuardedChange) (a : GuardedChange) → AreTyped sg xs as' → Contains as' a → IsTyped sg xs a
 one_typed sg xs [] a h c = absurd (Contains-nil a c)
 one_typed sg xs (b ∷ bs) a h c = elim (Contains-cons b bs a c) [
   | inl e ↦ subst (IsTyped sg xs) e h.0
   | inr k ↦ one_typed sg xs bs a h.1 k
 ]
 
-initial_of : (k : Kind) (t : Ty) → primitive_type k ≡ Some t → (e : Expr) × (k ≡ kind.Primitive t e)
+pub initial_of : (k : Kind) (t : Ty) → primitive_type k ≡ Some t → (e : Expr) × (k ≡ kind.Primitive t e)
 initial_of (kind.Primitive u e) t h = let q : u ≡ t = cc in (e, ap (λ v. kind.Primitive v e) q)
 initial_of (kind.Derived u e) t h = cc
 initial_of (kind.Operation es) t h = cc

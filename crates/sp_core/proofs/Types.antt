@@ -26,9 +26,10 @@ use Rattle.sp_core.specs.Machine.{IsState, types_of}
 use Rattle.sp_core.specs.Measures.{LookAt, LooksAt, Anything, Nothing, rank, rank_by, rank_of}
 use Rattle.sp_core.specs.Parts.{Parts, signature}
 use Rattle.sp_core.specs.Tree.{Tree, Trees, Const, Var, Not, Two, If, Param, Look, Every, New, none, more, tree}
-use Rattle.sp_core.specs.Typing.{HasType, HaveTypes, IsTyped, declared_members, is_constant, primitive_type, read_type}
-use Rattle.sp_core.specs.Values.{Reads, Store, level_number, is_true, look, nothing, nth, reads_by, two, value_of, values_of}
+use Rattle.sp_core.specs.Typing.{HasType, HaveTypes, MakesType, declared_members, is_constant, primitive_type, read_type}
+use Rattle.sp_core.specs.Values.{Reads, Store, level_number, is_true, look, nothing, nth, reads_by, two, value_of, value_over, values_of}
 use Rattle.sp_core.specs.WellFormed.{IsEarlier, IsKind, IsWellFormed}
+use Rattle.sp_core.proofs.Agree.{look_anywhere, looks_anywhere}
 use Rattle.sp_core.proofs.Looks.{AreOrdered, IsOrderedAs, look_is, rank_below}
 
 pub and_true : (a b : Bool) → (a && b) ≡ true → (a ≡ true) × (b ≡ true)
@@ -44,7 +45,7 @@ pub or_left : (a b : Bool) → a ≡ true → (a || b) ≡ true
 or_left true b e = refl
 or_left false b e = cc
 
-or_false : (a : Bool) → (a || false) ≡ true → a ≡ true
+pub or_false : (a : Bool) → (a || false) ≡ true → a ≡ true
 or_false true e = refl
 or_false false e = e
 
@@ -68,7 +69,7 @@ numbers_typed sz f (value.Member k a) b = refl
 numbers_typed sz f value.Unknown b = refl
 
 -- a level has a number below the count
-level_below : (sz : Sizes) (v : Value) → is_value sz ty.Level v ≡ true → level_number v < sz.levels
+pub level_below : (sz : Sizes) (v : Value) → is_value sz ty.Level v ≡ true → level_number v < sz.levels
 level_below sz (value.Level l) e = (Decides-ltb l sz.levels).0 (or_false (nat_lt l sz.levels) e)
 level_below sz (value.Truth b) e = cc
 level_below sz (value.Int b) e = cc
@@ -148,10 +149,10 @@ param_typed p i inst n q v e =
     subst (λ o. is_value (sizes_of p i) q.ty (table_value o v) ≡ true) (sym t.1) (row_typed (sizes_of p i) q.ty t.0.rows t.0.other v fits.values fits.other)
 
 -- what the functions give that meet OK is of their types
-abbrev pub AreTyped : Parts → Filling → (ℕ → Type 0) → Reads → Type 0
-AreTyped p i OK r = (g : ℕ) (f : Function) (t : Ty) (v : List Value) → OK g → slice_get p.functions g ≡ Some f → read_type f.kind ≡ Some t → IsTrue (are_values (sizes_of p i) (types_of f.formals) v) → IsTrue (is_value (sizes_of p i) t (r g v))
+abbrev pub AreTypedReads : Parts → Filling → (ℕ → Type 0) → Reads → Type 0
+AreTypedReads p i OK r = (g : ℕ) (f : Function) (t : Ty) (v : List Value) → OK g → slice_get p.functions g ≡ Some f → read_type f.kind ≡ Some t → IsTrue (are_values (sizes_of p i) (types_of f.formals) v) → IsTrue (is_value (sizes_of p i) t (r g v))
 
-primitive_read : (k : Kind) (t : Ty) → primitive_type k ≡ Some t → read_type k ≡ Some t
+pub primitive_read : (k : Kind) (t : Ty) → primitive_type k ≡ Some t → read_type k ≡ Some t
 primitive_read (kind.Primitive u e) t h = h
 primitive_read (kind.Derived u e) t h = cc
 primitive_read (kind.Operation es) t h = cc
@@ -168,7 +169,7 @@ pub ordered_functions : (p : Parts) → IsWellFormed p → AreOrdered p.function
 ordered_functions p wf = record { each = λ g f e. ordered_by p g f f.kind (wf.functions g f e).kind }
 
 module _ (p : Parts) (i : Filling) (wf : IsWellFormed p) (inst : IsInstance p i) where
-  two_typed : (o : Op) (u t : Ty) (a b : Value) → IsTyped o u t → is_value (sizes_of p i) u a ≡ true → is_value (sizes_of p i) u b ≡ true → is_value (sizes_of p i) t (two (world_of p i) o a b) ≡ true
+  two_typed : (o : Op) (u t : Ty) (a b : Value) → MakesType o u t → is_value (sizes_of p i) u a ≡ true → is_value (sizes_of p i) u b ≡ true → is_value (sizes_of p i) t (two (world_of p i) o a b) ≡ true
   two_typed op.And u t a b h x y = rw h.1 refl
   two_typed op.Or u t a b h x y = rw h.1 refl
   two_typed op.Same u t a b h x y = rw h refl
@@ -187,7 +188,7 @@ module _ (p : Parts) (i : Filling) (wf : IsWellFormed p) (inst : IsInstance p i)
       let lb = level_below (sizes_of p i) b (subst (λ v. is_value (sizes_of p i) v b ≡ true) h.0 y) in
       rw h.1 (level_typed (sizes_of p i) (meet p.lattice (level_number a) (level_number b)) (wf.lattice.glbs (level_number a) (level_number b) la lb).level)
 
-  module _ (r n : Reads) (OK NewOK : ℕ → Type 0) (old_typed : AreTyped p i OK r) (new_typed : AreTyped p i NewOK n) where
+  module _ (r n : Reads) (OK NewOK : ℕ → Type 0) (old_typed : AreTypedReads p i OK r) (new_typed : AreTypedReads p i NewOK n) where
     mutual
       pub value_typed : (e : Tree) (xs : List Ty) (x : List Value) (t : Ty) → are_values (sizes_of p i) xs x ≡ true → HasType (signature p) xs e t → LooksAt OK NewOK e → is_value (sizes_of p i) t (value_of (world_of p i) r n x e) ≡ true
       value_typed (Const v) xs x t a h ok = constant_typed p i inst t v h
@@ -206,7 +207,7 @@ module _ (p : Parts) (i : Filling) (wf : IsWellFormed p) (inst : IsInstance p i)
       values_typed (more d ds) xs x [] a h ok = absurd h
       values_typed (more d ds) xs x (t ∷ ts) a h ok = both_true (is_value (sizes_of p i) t (value_of (world_of p i) r n x d)) (are_values (sizes_of p i) ts (values_of (world_of p i) r n x ds)) (value_typed d xs x t a h.0 ok.0) (values_typed ds xs x ts a h.1 ok.1)
 
-  nothing_typed : AreTyped p i Nothing nothing
+  nothing_typed : AreTypedReads p i Nothing nothing
   nothing_typed g f t v ok e k a = absurd ok
 
   module _ (s : Store) (state : IsState (machine_of p i) s) where
@@ -221,7 +222,7 @@ module _ (p : Parts) (i : Filling) (wf : IsWellFormed p) (inst : IsInstance p i)
         subst (λ u. is_value (sizes_of p i) u x ≡ true) types n.4
 
     by_kind : (n g : ℕ) (f : Function) (t : Ty) (v : List Value) (k : Kind) → f.kind ≡ k → slice_get p.functions g ≡ Some f → rank_by g k < suc n → read_type k ≡ Some t → are_values (sizes_of p i) (types_of f.formals) v ≡ true → IsKind (signature p) (types_of f.formals) g k
-        → AreTyped p i (λ h. rank p.functions h < n) (look (world_of p i) p.functions s) → is_value (sizes_of p i) t (reads_by (world_of p i) s (look (world_of p i) p.functions s) (Some (record f { kind = k })) g v) ≡ true
+        → AreTypedReads p i (λ h. rank p.functions h < n) (look (world_of p i) p.functions s) → is_value (sizes_of p i) t (reads_by (world_of p i) s (look (world_of p i) p.functions s) (Some (record f { kind = k })) g v) ≡ true
     by_kind n g f t v (kind.Primitive u init) e there l rt a h ih =
         let q : u ≡ t = cc in
         subst (λ z. is_value (sizes_of p i) z (unwrap_or (s g v) (value_of (world_of p i) nothing nothing v (tree init))) ≡ true) q
@@ -233,7 +234,7 @@ module _ (p : Parts) (i : Filling) (wf : IsWellFormed p) (inst : IsInstance p i)
     by_kind n g f t v (kind.Operation es) e there l rt a h ih = cc
     by_kind n g f t v (kind.Both u es) e there l rt a h ih = cc
 
-    looks_typed : (n : ℕ) → AreTyped p i (λ h. rank p.functions h < n) (look (world_of p i) p.functions s)
+    looks_typed : (n : ℕ) → AreTypedReads p i (λ h. rank p.functions h < n) (look (world_of p i) p.functions s)
     looks_typed zero g f t v ok e k a = absurd (omega (arith, ok))
     looks_typed (suc n) g f t v ok e k a =
         let l : rank_by g f.kind < suc n = subst (λ o. rank_of g o < suc n) e ok in
@@ -241,10 +242,14 @@ module _ (p : Parts) (i : Filling) (wf : IsWellFormed p) (inst : IsInstance p i)
         (by_kind n g f t v f.kind refl e l k a (wf.functions g f e).kind (looks_typed n))
 
     -- what a state gives at a V-function, at values of its formals' types, is of its type
-    pub look_typed : AreTyped p i Anything (look (world_of p i) p.functions s)
+    pub look_typed : AreTypedReads p i Anything (look (world_of p i) p.functions s)
     look_typed g f t v ok e k a = looks_typed (suc (rank p.functions g)) g f t v (omega arith) e k a
 
--- a well-typed expression has a value of its type
-pub typed : (p : Parts) (i : Filling) → IsWellFormed p → IsInstance p i → (s : Store) → IsState (machine_of p i) s → (xs : List Ty) (x : List Value) (e : Tree) (t : Ty) → IsTrue (are_values (sizes_of p i) xs x) → HasType (signature p) xs e t → LooksAt Anything Nothing e → IsTrue (is_value (sizes_of p i) t (value_of (world_of p i) (look (world_of p i) p.functions s) (look (world_of p i) p.functions s) x e))
-typed p i wf inst s state xs x e t a h ok =
-    value_typed p i wf inst (look (world_of p i) p.functions s) (look (world_of p i) p.functions s) Anything Nothing (look_typed p i wf inst s state) (λ g f u v n. absurd n) e xs x t a h ok
+-- a well-typed expression has over two states a value of its type
+pub typed : (p : Parts) (i : Filling) → IsWellFormed p → IsInstance p i → (s u : Store) → IsState (machine_of p i) s → IsState (machine_of p i) u → (xs : List Ty) (x : List Value) (e : Tree) (t : Ty) → IsTrue (are_values (sizes_of p i) xs x) → HasType (signature p) xs e t → IsTrue (is_value (sizes_of p i) t (value_over (world_of p i) p.functions s u x e))
+typed p i wf inst s u state new_state xs x e t a h =
+    value_typed p i wf inst (look (world_of p i) p.functions s) (look (world_of p i) p.functions u) Anything Anything (look_typed p i wf inst s state) (look_typed p i wf inst u new_state) e xs x t a h (looks_anywhere e)
+
+pub all_typed : (p : Parts) (i : Filling) → IsWellFormed p → IsInstance p i → (s u : Store) → IsState (machine_of p i) s → IsState (machine_of p i) u → (xs : List Ty) (x : List Value) (ds : Trees) (ts : List Ty) → IsTrue (are_values (sizes_of p i) xs x) → HaveTypes (signature p) xs ds ts → IsTrue (are_values (sizes_of p i) ts (values_of (world_of p i) (look (world_of p i) p.functions s) (look (world_of p i) p.functions u) x ds))
+all_typed p i wf inst s u state new_state xs x ds ts a h =
+    values_typed p i wf inst (look (world_of p i) p.functions s) (look (world_of p i) p.functions u) Anything Anything (look_typed p i wf inst s state) (look_typed p i wf inst u new_state) ds xs x ts a h (look_anywhere ds)

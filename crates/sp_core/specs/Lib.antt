@@ -1,11 +1,13 @@
 pub mod Tree
 pub mod Effects
+pub mod Ranks
 pub mod Values
 pub mod Machine
 pub mod Security
 pub mod States
 pub mod Typing
 pub mod Measures
+pub mod Reading
 pub mod Parts
 pub mod WellFormed
 pub mod Instances

@@ -1,6 +1,6 @@
 -- The machine of a specification with an instance: its states, invocations and levels, and what an invocation answers and
 -- changes; for the animator and for what it means to be secure.
-use Rattle.std.specs.Prelude.{◌≡◌, ℕ, IsTrue, List, [], ◌∷◌, ◌++◌, map, Option, Some, None, slice_get, position}
+use Rattle.std.specs.Prelude.{◌≡◌, ℕ, zero, suc, ◌<◌, IsTrue, List, [], ◌∷◌, ◌++◌, map, Option, Some, None, slice_get, position}
 use Rattle.std.specs.List.{All, Contains}
 use Rattle.sp_values.specs.declared.value.Ty.{Ty}
 use Rattle.sp_values.specs.declared.value.Value.{Value}
@@ -15,7 +15,8 @@ use Rattle.sp_core.specs.declared.function.Answer.{Answer}
 use Rattle.sp_core.specs.declared.function.Answer.TheVariants as answer
 use Rattle.sp_core.specs.Tree.{Tree, tree}
 use Rattle.sp_core.specs.Effects.{GuardedChange, GuardedResult, changes_in, results_in, effect_trees}
-use Rattle.sp_core.specs.Values.{World, Store, is_true, level_number, value_of, values_of, nothing, look, value_in}
+use Rattle.sp_core.specs.Ranks.{of_rank, ranks}
+use Rattle.sp_core.specs.Values.{World, Store, is_true, level_number, value_of, values_of, nothing, look, value_in, value_over}
 
 -- the lattice and instance, and the functions of the specification
 pub record Machine : Type 0 where
@@ -69,7 +70,7 @@ pub record IsInvocationOf (m : Machine) (i : Invocation) (f : Function) : Type 0
 abbrev pub IsInvocation : Machine → Invocation → Type 0
 IsInvocation m i = (f : Function) × IsInvocationOf m i f
 
--- What an invocation answers
+-- What is TRUE
 
 -- the value of an expression in state s, in an environment
 abbrev pub value_at : Machine → Store → List Value → Tree → Value
@@ -82,31 +83,6 @@ IsHeld m s x e = IsTrue (is_true (value_at m s x e))
 -- the number of the first exception that is TRUE
 abbrev pub first_exception : Machine → Store → Invocation → Function → Option ℕ
 first_exception m s i f = position (λ e. is_true (value_at m s i.args (tree e.1))) f.exceptions
-
--- v is the value of the one result, number k, whose guards are TRUE
-pub record IsResultAt (m : Machine) (s : Store) (i : Invocation) (rs : List GuardedResult) (v : Value) (k : ℕ) (r : GuardedResult) : Type 0 where
-  pub there : slice_get rs k ≡ Some r
-  pub held : All (IsHeld m s i.args) r.guards
-  pub only : (j : ℕ) (q : GuardedResult) → slice_get rs j ≡ Some q → All (IsHeld m s i.args) q.guards → j ≡ k
-  pub value : v ≡ value_at m s i.args r.value
-
-abbrev pub IsResult : Machine → Store → Invocation → List GuardedResult → Value → Type 0
-IsResult m s i rs v = (k : ℕ) × (r : GuardedResult) × IsResultAt m s i rs v k r
-
--- the answer where no exception is true: a V-function's value, Done for an O-function, an OV-function's result
-abbrev pub AnswersPlainly : Machine → Store → Invocation → Kind → Answer → Type 0
-AnswersPlainly m s i (kind.Primitive t e) a = a ≡ answer.Value (look m.world m.functions s i.fun i.args)
-AnswersPlainly m s i (kind.Derived t e) a = a ≡ answer.Value (look m.world m.functions s i.fun i.args)
-AnswersPlainly m s i (kind.Operation es) a = a ≡ answer.Done
-AnswersPlainly m s i (kind.Both t es) a = (v : Value) × IsResult m s i (results_in (effect_trees (kind.Both t es))) v × (a ≡ answer.Value v)
-
--- the answer: the first exception that is TRUE, or the plain answer where none is
-abbrev pub AnswersBy : Machine → Store → Invocation → Function → Option ℕ → Answer → Type 0
-AnswersBy m s i f (Some n) a = a ≡ answer.Exception n
-AnswersBy m s i f None a = AnswersPlainly m s i f.kind a
-
-abbrev pub Answers : Machine → Store → Invocation → Function → Answer → Type 0
-Answers m s i f a = AnswersBy m s i f (first_exception m s i f) a
 
 -- What an invocation changes
 
@@ -136,25 +112,86 @@ pub record Changes (m : Machine) (s u : Store) (i : Invocation) (as' : List Guar
   pub named : (a : GuardedChange) (cs : List Value) → IsTrueChange m s i as' a cs → t a.fun (target m s u i a cs) ≡ Some (given m s u i a cs)
   pub others : (g : ℕ) (v : List Value) → ((a : GuardedChange) (cs : List Value) → IsTrueChange m s i as' a cs → a.fun ≡ g → target m s u i a cs ≡ v → ⊥) → t g v ≡ u g v
 
--- the state after the answer: the same after an exception; else the true changes are made, and a V-function has none. All
--- is evaluated in s, which is the base too.
-abbrev pub Moves : Machine → Store → Invocation → Function → Answer → Store → Type 0
-Moves m s i f (answer.Exception n) t = t ≡ s
-Moves m s i f answer.Done t = Changes m s s i (changes_in (effect_trees f.kind)) t
-Moves m s i f (answer.Value v) t = Changes m s s i (changes_in (effect_trees f.kind)) t
+-- Ranks. A change may read new values, so the changes are made rank by rank: u is the state before the changes of rank k, from
+-- state s. Before rank 0 it is s. Those of rank k name places and give values over s and the state before rank k, which is
+-- the base too.
+abbrev pub Stage : Machine → Store → Invocation → List GuardedChange → ℕ → Store → Type 0
+Stage m s i as' zero u = u ≡ s
+Stage m s i as' (suc k) u = (v : Store) × Stage m s i as' k v × Changes m s v i (of_rank as' k) u
+
+-- t is the state after the changes of all ranks
+abbrev pub ChangesByRank : Machine → Store → Invocation → List GuardedChange → Store → Type 0
+ChangesByRank m s i as' t = Stage m s i as' (ranks as') t
+
+-- two true changes give one place different values, over the old state s and the state u before their rank
+pub record IsConflictOf (m : Machine) (s u : Store) (i : Invocation) (as' : List GuardedChange) (a b : GuardedChange) (cs ds : List Value) : Type 0 where
+  pub first : IsTrueChange m s i as' a cs
+  pub second : IsTrueChange m s i as' b ds
+  pub function : a.fun ≡ b.fun
+  pub arguments : target m s u i a cs ≡ target m s u i b ds
+  pub values : given m s u i a cs ≡ given m s u i b ds → ⊥
+
+abbrev pub Conflict : Machine → Store → Store → Invocation → List GuardedChange → Type 0
+Conflict m s u i as' = (a : GuardedChange) × (b : GuardedChange) × (cs : List Value) × (ds : List Value) × IsConflictOf m s u i as' a b cs ds
+
+-- the changes of a rank conflict, before which is state u
+pub record IsRankInConflict (m : Machine) (s : Store) (i : Invocation) (as' : List GuardedChange) (k : ℕ) (u : Store) : Type 0 where
+  pub rank : k < ranks as'
+  pub before : Stage m s i as' k u
+  pub conflict : Conflict m s u i (of_rank as' k)
+
+abbrev pub ConflictByRank : Machine → Store → Invocation → List GuardedChange → Type 0
+ConflictByRank m s i as' = (k : ℕ) × (u : Store) × IsRankInConflict m s i as' k u
+
+-- What an invocation answers, and its step
+
+-- v is the value, over the old state s and the new state u, of the one result, number k, whose guards are TRUE in s
+pub record IsResultAt (m : Machine) (s u : Store) (i : Invocation) (rs : List GuardedResult) (v : Value) (k : ℕ) (r : GuardedResult) : Type 0 where
+  pub there : slice_get rs k ≡ Some r
+  pub held : All (IsHeld m s i.args) r.guards
+  pub only : (j : ℕ) (q : GuardedResult) → slice_get rs j ≡ Some q → All (IsHeld m s i.args) q.guards → j ≡ k
+  pub value : v ≡ value_over m.world m.functions s u i.args r.value
+
+abbrev pub IsResult : Machine → Store → Store → Invocation → List GuardedResult → Value → Type 0
+IsResult m s u i rs v = (k : ℕ) × (r : GuardedResult) × IsResultAt m s u i rs v k r
+
+-- the answer where no exception is true: a V-function's value, Done for an O-function, an OV-function's result
+abbrev pub Replies : Machine → Store → Store → Invocation → Kind → Answer → Type 0
+Replies m s u i (kind.Primitive t e) a = a ≡ answer.Value (look m.world m.functions s i.fun i.args)
+Replies m s u i (kind.Derived t e) a = a ≡ answer.Value (look m.world m.functions s i.fun i.args)
+Replies m s u i (kind.Operation es) a = a ≡ answer.Done
+Replies m s u i (kind.Both t es) a = (v : Value) × IsResult m s u i (results_in (effect_trees (kind.Both t es))) v × (a ≡ answer.Value v)
+
+-- The answer and the new state, by the first exception that is TRUE: that exception, and the old state. Where none is, all
+-- changes are made, rank by rank; a V-function has none. The answer is then that over the old and the new state.
+abbrev pub Outcome : Machine → Store → Invocation → Function → Option ℕ → Answer → Store → Type 0
+Outcome m s i f (Some n) a t = (a ≡ answer.Exception n) × (t ≡ s)
+Outcome m s i f None a t = ChangesByRank m s i (changes_in (effect_trees f.kind)) t × Replies m s t i f.kind a
 
 -- the step relation
 pub record StepOf (m : Machine) (s : Store) (i : Invocation) (a : Answer) (t : Store) (f : Function) : Type 0 where
   pub function : slice_get m.functions i.fun ≡ Some f
-  pub answers : Answers m s i f a
-  pub moves : Moves m s i f a t
+  pub outcome : Outcome m s i f (first_exception m s i f) a t
 
 abbrev pub Step : Machine → Store → Invocation → Answer → Store → Type 0
 Step m s i a t = (f : Function) × StepOf m s i a t f
 
--- the run relation: the steps of a list of invocations, one after the other
+-- no exception is TRUE, and the changes of a rank conflict; such an invocation has no step
+pub record MeetsConflictOf (m : Machine) (s : Store) (i : Invocation) (f : Function) : Type 0 where
+  pub function : slice_get m.functions i.fun ≡ Some f
+  pub plain : first_exception m s i f ≡ None
+  pub conflict : ConflictByRank m s i (changes_in (effect_trees f.kind))
+
+abbrev pub MeetsConflict : Machine → Store → Invocation → Type 0
+MeetsConflict m s i = (f : Function) × MeetsConflictOf m s i f
+
+-- the runs of a step relation: its steps for a list of invocations, one after the other
+abbrev pub RunBy : (Store → Invocation → Answer → Store → Type 0) → Store → List Invocation → List Answer → Store → Type 0
+RunBy Single s [] [] t = t ≡ s
+RunBy Single s (i ∷ is') (a ∷ as') t = (u : Store) × Single s i a u × RunBy Single u is' as' t
+RunBy Single s [] (a ∷ as') t = ⊥
+RunBy Single s (i ∷ is') [] t = ⊥
+
+-- the run relation
 abbrev pub Run : Machine → Store → List Invocation → List Answer → Store → Type 0
-Run m s [] [] t = t ≡ s
-Run m s (i ∷ is') (a ∷ as') t = (u : Store) × Step m s i a u × Run m u is' as' t
-Run m s [] (a ∷ as') t = ⊥
-Run m s (i ∷ is') [] t = ⊥
+Run m = RunBy (Step m)

@@ -63,19 +63,26 @@ abbrev pub primitive_type : Kind → Option Ty
 primitive_type (kind.Primitive t e) = Some t
 primitive_type k = None
 
+-- the type of the values that a function answers: a V-function's or an OV-function's own; an O-function has none
+abbrev pub answer_type : Kind → Option Ty
+answer_type (kind.Primitive t e) = Some t
+answer_type (kind.Derived t e) = Some t
+answer_type (kind.Operation es) = None
+answer_type (kind.Both t es) = Some t
+
 -- two parts of type u make an operator's whole of type t
-abbrev pub IsTyped : Op → Ty → Ty → Type 0
-IsTyped op.And u t = (u ≡ ty.Boolean) × (t ≡ ty.Boolean)
-IsTyped op.Or u t = (u ≡ ty.Boolean) × (t ≡ ty.Boolean)
-IsTyped op.Same u t = t ≡ ty.Boolean
-IsTyped op.LevelLe u t = (u ≡ ty.Level) × (t ≡ ty.Boolean)
-IsTyped op.IntLe u t = (u ≡ ty.Integer) × (t ≡ ty.Boolean)
-IsTyped op.IntLt u t = (u ≡ ty.Integer) × (t ≡ ty.Boolean)
-IsTyped op.Add u t = (u ≡ ty.Integer) × (t ≡ ty.Integer)
-IsTyped op.Sub u t = (u ≡ ty.Integer) × (t ≡ ty.Integer)
-IsTyped op.Mul u t = (u ≡ ty.Integer) × (t ≡ ty.Integer)
-IsTyped op.Lub u t = (u ≡ ty.Level) × (t ≡ ty.Level)
-IsTyped op.Glb u t = (u ≡ ty.Level) × (t ≡ ty.Level)
+abbrev pub MakesType : Op → Ty → Ty → Type 0
+MakesType op.And u t = (u ≡ ty.Boolean) × (t ≡ ty.Boolean)
+MakesType op.Or u t = (u ≡ ty.Boolean) × (t ≡ ty.Boolean)
+MakesType op.Same u t = t ≡ ty.Boolean
+MakesType op.LevelLe u t = (u ≡ ty.Level) × (t ≡ ty.Boolean)
+MakesType op.IntLe u t = (u ≡ ty.Integer) × (t ≡ ty.Boolean)
+MakesType op.IntLt u t = (u ≡ ty.Integer) × (t ≡ ty.Boolean)
+MakesType op.Add u t = (u ≡ ty.Integer) × (t ≡ ty.Integer)
+MakesType op.Sub u t = (u ≡ ty.Integer) × (t ≡ ty.Integer)
+MakesType op.Mul u t = (u ≡ ty.Integer) × (t ≡ ty.Integer)
+MakesType op.Lub u t = (u ≡ ty.Level) × (t ≡ ty.Level)
+MakesType op.Glb u t = (u ≡ ty.Level) × (t ≡ ty.Level)
 
 -- The expression has type t over variables of the types xs. A quantifier has the number of the variables around it, which
 -- is the place of its own variable.
@@ -84,7 +91,7 @@ abbrev mutual
   HasType sg xs (Const v) t = IsTrue (is_constant sg t v)
   HasType sg xs (Var k) t = slice_get xs k ≡ Some t
   HasType sg xs (Not a) t = (t ≡ ty.Boolean) × HasType sg xs a ty.Boolean
-  HasType sg xs (Two o a b) t = (u : Ty) × IsTyped o u t × HasType sg xs a u × HasType sg xs b u
+  HasType sg xs (Two o a b) t = (u : Ty) × MakesType o u t × HasType sg xs a u × HasType sg xs b u
   HasType sg xs (If c a b) t = HasType sg xs c ty.Boolean × HasType sg xs a t × HasType sg xs b t
   HasType sg xs (Param q ds) t = (p : Parameter) × (slice_get sg.params q ≡ Some p) × (p.ty ≡ t) × HaveTypes sg xs ds (types_of p.formals)
   HasType sg xs (Look g ds) t = (f : Function) × (slice_get sg.functions g ≡ Some f) × (read_type f.kind ≡ Some t) × HaveTypes sg xs ds (types_of f.formals)

@@ -17,6 +17,7 @@ use Rattle.sp_core.specs.Effects as effect
 use Rattle.sp_core.specs.Machine.{types_of}
 use Rattle.sp_core.specs.Measures.{Anything, HaveResults, IsWithinDepth, LooksAt, Nothing, bound_variables_in, function_nodes, nodes, quantifiers}
 use Rattle.sp_core.specs.Parts.{Parts, signature}
+use Rattle.sp_core.specs.Ranks.{HasNoCycle}
 use Rattle.sp_core.specs.Tree.{Tree, Trees, Var, none, more, tree}
 use Rattle.sp_core.specs.Typing.{HasType, Signature, is_finite, is_type, primitive_type}
 
@@ -48,12 +49,18 @@ pub record IsExpression (sg : Signature) (xs : List Ty) (e : Tree) (t : Ty) : Ty
   pub few_quantifiers : quantifiers e ≤ 3
   pub no_new : LooksAt Anything Nothing e
 
+-- the same where it may read new values, which are those of primitive functions: it gives a place, its value or a result
+pub record IsNewExpression (sg : Signature) (xs : List Ty) (e : Tree) (t : Ty) : Type 0 where
+  pub typed : HasType sg xs e t
+  pub few_nodes : nodes e ≤ 1024
+  pub few_quantifiers : quantifiers e ≤ 3
+
 -- such expressions, one for each type
-abbrev pub AreExpressions : Signature → List Ty → Trees → List Ty → Type 0
-AreExpressions sg xs none [] = Unit {0}
-AreExpressions sg xs none (t ∷ ts) = ⊥
-AreExpressions sg xs (more d ds) [] = ⊥
-AreExpressions sg xs (more d ds) (t ∷ ts) = IsExpression sg xs d t × AreExpressions sg xs ds ts
+abbrev pub AreNewExpressions : Signature → List Ty → Trees → List Ty → Type 0
+AreNewExpressions sg xs none [] = Unit {0}
+AreNewExpressions sg xs none (t ∷ ts) = ⊥
+AreNewExpressions sg xs (more d ds) [] = ⊥
+AreNewExpressions sg xs (more d ds) (t ∷ ts) = IsNewExpression sg xs d t × AreNewExpressions sg xs ds ts
 
 -- at most eight formals, of types of the signature
 pub record AreFormals (sg : Signature) (formals : List Formal) : Type 0 where
@@ -63,11 +70,11 @@ pub record AreFormals (sg : Signature) (formals : List Formal) : Type 0 where
 -- Effects
 
 -- Effects over variables of the types xs; a result has type r. A FORALL effect has the number of the variables around it,
--- which is the place of its own variable.
+-- which is the place of its own variable. A condition reads no new value.
 abbrev mutual
   pub IsEffect : Signature → Option Ty → List Ty → EffectTree → Type 0
-  IsEffect sg r xs (effect.Change g ds e) = (f : Function) × (t : Ty) × (slice_get sg.functions g ≡ Some f) × (primitive_type f.kind ≡ Some t) × AreExpressions sg xs ds (types_of f.formals) × IsExpression sg xs e t
-  IsEffect sg r xs (effect.Answer e) = (t : Ty) × (r ≡ Some t) × IsExpression sg xs e t
+  IsEffect sg r xs (effect.Change g ds e) = (f : Function) × (t : Ty) × (slice_get sg.functions g ≡ Some f) × (primitive_type f.kind ≡ Some t) × AreNewExpressions sg xs ds (types_of f.formals) × IsNewExpression sg xs e t
+  IsEffect sg r xs (effect.Answer e) = (t : Ty) × (r ≡ Some t) × IsNewExpression sg xs e t
   IsEffect sg r xs (effect.If c as' bs) = IsExpression sg xs c ty.Boolean × AreEffects sg r xs as' × AreEffects sg r xs bs
   IsEffect sg r xs (effect.Every k u ws) = (k ≡ length xs) × IsTrue (is_finite sg u) × AreEffects sg r (xs ++ u ∷ []) ws
 
@@ -89,12 +96,13 @@ alone k (more d ds) = if is_variable k d then suc (alone k ds) else alone k ds
 abbrev pub IsInjective : ℕ → GuardedChange → Type 0
 IsInjective n a = (j : ℕ) → j < length a.vars → alone (n + j) a.args ≡ 1
 
--- effects of a function with formals of the types xs
+-- effects of a function with formals of the types xs; what their changes read new makes no cycle
 pub record AreEffectsOf (sg : Signature) (r : Option Ty) (xs : List Ty) (ws : EffectTrees) : Type 0 where
   pub effects : AreEffects sg r xs ws
   pub few_bound : bound_variables_in ws ≤ 2
   pub few_changes : length (changes_in ws) ≤ 64
   pub injective : All (IsInjective (length xs)) (changes_in ws)
+  pub no_cycle : HasNoCycle (changes_in ws)
 
 -- Declarations
 

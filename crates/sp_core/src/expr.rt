@@ -21,7 +21,8 @@ pub enum Expr {
     Look(u16, Items<Expr>),
     /// Whether the part is TRUE for each proper value of the type, put as the k-th after the first k values.
     Every(u32, Ty, Boxed<Expr>),
-    /// The new value of a primitive V-function at arguments. No part of a specification holds one yet.
+    /// The new value of a primitive V-function at arguments. It stands in the arguments and the value of a change and in
+    /// the value of a result alone.
     New(u16, Items<Expr>),
 }
 

@@ -3,7 +3,8 @@ use sp_text::{Name, Sequence};
 use sp_values::{Ty, Value};
 use sqlite_items::Items;
 
-/// What a function does where no exception is true. All of it is evaluated in the old state.
+/// What a function does where no exception is true. Conditions are evaluated in the old state. The arguments and the value
+/// of a change, and the value of a result, may read new values too.
 #[derive(Debug, Drop)]
 pub enum Effect {
     /// The primitive V-function, by its number, has at these arguments this new value.

@@ -21,9 +21,9 @@ use Rattle.sp_core.specs.Typing.{HasType, is_finite}
 use Rattle.sp_core.specs.Values.{World, is_true, nothing, value_of}
 use Rattle.sp_core.specs.WellFormed.{IsAssertion}
 use Rattle.sp_core.proofs.Agree.{value_agrees}
-use Rattle.sp_core.proofs.StatesTyped.{are_values-append}
+use Rattle.sp_core.proofs.Bindings.{are_values-append}
 use Rattle.sp_core.proofs.Types.{both_true}
-use Rattle.sp_core.proofs.Unique.{Contains-cons, Contains-nil, Contains-first, Contains-later}
+use Rattle.sp_core.proofs.Elements.{Contains-cons, Contains-nil, Contains-first, Contains-later}
 use Rattle.sp_eval.specs.Admissible.{HoldsForAll, IsClaim}
 use Rattle.sp_eval.specs.Settings.{IsReady, Setting, new_reads, old_reads, population, proper_at, sizes, tree_value, world}
 use Rattle.sp_eval.proofs.Own.{reads_below}

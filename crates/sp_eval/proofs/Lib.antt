@@ -1,4 +1,5 @@
-pub mod TreeLemmas
-pub mod Ready
-pub mod Own
-pub mod Claims
+mod Nodes
+mod Ready
+mod Own
+mod Claims
+mod Overlaid

@@ -14,19 +14,20 @@ use Rattle.sp_core.specs.declared.function.Effect.{Effect}
 use Rattle.sp_core.specs.declared.function.Function.{Function}
 use Rattle.sp_core.specs.declared.function.Kind.{Kind}
 use Rattle.sp_core.specs.declared.function.Kind.TheVariants as kind
-use Rattle.sp_core.specs.Machine.{IsInvocation, level_by, level_of, types_of}
+use Rattle.sp_core.specs.Machine.{IsInvocation, IsPlace, level_by, level_of, types_of}
 use Rattle.sp_core.specs.Instances.{filling_of, machine_of}
 use Rattle.sp_core.specs.Measures.{LookAt, LooksAt, Nothing, nodes, rank, rank_by, rank_of}
 use Rattle.sp_core.specs.Parts.{signature}
 use Rattle.sp_core.specs.States.{entry_of}
 use Rattle.sp_core.specs.Tree.{Tree, Trees, Const, Var, Not, Two, If, Param, Look, Every, New, none, more, tree}
-use Rattle.sp_core.specs.Values.{level_number, nothing, reads_by, value_of}
+use Rattle.sp_core.specs.Typing.{read_type}
+use Rattle.sp_core.specs.Values.{Store, level_number, look, nothing, reads_by, value_of}
 use Rattle.sp_core.specs.WellFormed.{AreFormals, IsDerivation, IsEarlier, IsExpression, IsInitial, IsKind, IsLevel}
 use Rattle.sp_core.proofs.Agree.{value_agrees}
 use Rattle.sp_core.proofs.Looks.{look_is, rank_below, rank_small}
-use Rattle.sp_core.proofs.StatesTyped.{arguments_typed}
+use Rattle.sp_core.proofs.Bindings.{arguments_typed}
 use Rattle.sp_core.proofs.Types.{look_typed, ordered_functions}
-use Rattle.sp_eval.specs.Conditions.{HasItsType, HasTypeOfRead, IsRead, IsTyped}
+use Rattle.sp_eval.specs.Conditions.{HasItsType, HasTypeOfRead, IsRead, IsTypedIn}
 use Rattle.sp_eval.specs.Settings.{IsRankedBelow, IsReady, IsSetting, Setting, new_reads, old_reads, sizes, tree_value, world}
 use Rattle.sp_eval.proofs.Ready.{length_typed, level_operand, typed_value}
 
@@ -81,12 +82,12 @@ pub ranked : (s : Setting) → IsSetting s → (g : ℕ) → IsRankedBelow s (le
 ranked s fine g = rank_small (world s) s.parts.functions (ordered_functions s.parts fine.well_formed) (entry_of s.old) g (slice_get s.parts.functions g) refl
 
 -- so each typed expression is ready
-pub ready_typed : (s : Setting) → IsSetting s → (x : List Value) (e : Tree) → IsTyped s.parts s.instance x e → IsReady s (length s.parts.functions + 1) x e
+pub ready_typed : (s : Setting) → IsSetting s → (x : List Value) (e : Tree) → IsTypedIn s.parts s.instance x e → IsReady s (length s.parts.functions + 1) x e
 ready_typed s fine x e h = record { typed = h; reads = looks_all (IsRankedBelow s (length s.parts.functions + 1)) (ranked s fine) e }
 
-pub ready_at : (s r : Setting) → s ≡ r → IsSetting s → (fs : List Function) → fs ≡ r.parts.functions → (x : List Value) (e : Tree) → IsTyped r.parts r.instance x e → IsReady s (length fs + 1) x e
+pub ready_at : (s r : Setting) → s ≡ r → IsSetting s → (fs : List Function) → fs ≡ r.parts.functions → (x : List Value) (e : Tree) → IsTypedIn r.parts r.instance x e → IsReady s (length fs + 1) x e
 ready_at s r same fine fs q x e h =
-    subst (λ (r : Setting). (fs : List Function) → fs ≡ r.parts.functions → IsTyped r.parts r.instance x e → IsReady s (length fs + 1) x e) same
+    subst (λ (r : Setting). (fs : List Function) → fs ≡ r.parts.functions → IsTypedIn r.parts r.instance x e → IsReady s (length fs + 1) x e) same
     (λ fs q h. subst (λ fs. IsReady s (length fs + 1) x e) (sym q) (ready_typed s fine x e h)) fs q h
 
 -- and has a value of its type
@@ -130,6 +131,10 @@ module _ (s : Setting) (fine : IsSetting s) (i : Invocation) (h : IsInvocation (
       let typed = typed_value s 0 i.args fine (types_of f.formals) (tree f.level) ty.Level values level_fine.expression.typed (reads_below s 0 Nothing Nothing (λ g n. absurd n) (λ g n. absurd n) (tree f.level) level_fine.reads_nothing) in
       level_operand (sizes s) v (subst (λ v. IsTrue (is_value (sizes s) ty.Level v)) (sym (e ∙ ap (λ y. tree_value s y (tree f.level)) q)) typed)
 
+-- a primitive function is a V-function
+pub place_is_read : (s : Setting) (g : ℕ) (v : List Value) → IsPlace (machine_of s.parts (filling_of s.instance)) g v → IsRead s.parts s.instance g v
+place_is_read s g v h = (h.0, h.1, record { function = h.3.function; type = ap read_type h.3.primitive; arguments = h.3.arguments })
+
 -- a V-function stands among the functions
 pub found : (s : Setting) (g : ℕ) (v : List Value) (f : Function) (fs : List Function) → IsRead s.parts s.instance g v → fs ≡ s.parts.functions → f ≡ get_or fs g f → slice_get s.parts.functions g ≡ Some f
 found s g v f fs h same e =
@@ -150,10 +155,11 @@ module _ (s : Setting) (fine : IsSetting s) (g : ℕ) (f : Function) (there : sl
       let one : h.0 ≡ f = cc in
       subst (λ (f : Function). IsTrue (are_values (sizes s) (types_of f.formals) v)) one h.2.arguments
 
-  gives : (v : List Value) (k : Kind) → f.kind ≡ k → reads_by (world s) (entry_of s.old) (old_reads s) (Some (record f { kind = k })) g v ≡ old_reads s g v
-  gives v k e =
-      ap (λ k. reads_by (world s) (entry_of s.old) (old_reads s) (Some (record f { kind = k })) g v) (sym e)
-      ∙ sym (look_is (world s) s.parts.functions (ordered_functions s.parts fine.well_formed) (entry_of s.old) g v ∙ ap (λ o. reads_by (world s) (entry_of s.old) (old_reads s) o g v) there)
+  gives : (u : Store) (v : List Value) (k : Kind) → f.kind ≡ k → reads_by (world s) u (look (world s) s.parts.functions u) (Some (record f { kind = k })) g v ≡ look (world s) s.parts.functions u g v
+  gives u v k e =
+      let reads = look (world s) s.parts.functions u in
+      ap (λ k. reads_by (world s) u reads (Some (record f { kind = k })) g v) (sym e)
+      ∙ sym (look_is (world s) s.parts.functions (ordered_functions s.parts fine.well_formed) u g v ∙ ap (λ o. reads_by (world s) u reads o g v) there)
 
   rank_is : (k : Kind) → f.kind ≡ k → rank s.parts.functions g ≡ rank_by g k
   rank_is k e = ap (rank_of g) there ∙ ap (rank_by g) e
@@ -168,13 +174,16 @@ module _ (s : Setting) (fine : IsSetting s) (g : ℕ) (f : Function) (there : sl
     pub initial_nodes : nodes (tree init) ≤ 1024
     initial_nodes = let own : IsInitial (signature s.parts) (types_of f.formals) t init = kind_is (kind.Primitive t init) e in own.expression.few_nodes
 
-    pub gives_initial : (v y : List Value) → entry_of s.old g v ≡ None → y ≡ v → (r : Value) → r ≡ tree_value s y (tree init) → r ≡ old_reads s g v
-    gives_initial v y n q r i =
+    pub gives_entry : (u : Store) (v : List Value) (x : Value) → u g v ≡ Some x → x ≡ look (world s) s.parts.functions u g v
+    gives_entry u v x q = ap (λ o. unwrap_or o (value_of (world s) nothing nothing v (tree init))) (sym q) ∙ gives u v (kind.Primitive t init) e
+
+    pub gives_initial : (u : Store) (v y : List Value) → u g v ≡ None → y ≡ v → (r : Value) → r ≡ tree_value s y (tree init) → r ≡ look (world s) s.parts.functions u g v
+    gives_initial u v y n q r i =
         let own : IsInitial (signature s.parts) (types_of f.formals) t init = kind_is (kind.Primitive t init) e in
         i ∙ ap (λ y. tree_value s y (tree init)) q
         ∙ sym (value_agrees (world s) nothing nothing (old_reads s) (new_reads s) Nothing (λ g v n. absurd n) (tree init) v own.reads_nothing)
         ∙ ap (λ o. unwrap_or o (value_of (world s) nothing nothing v (tree init))) (sym n)
-        ∙ gives v (kind.Primitive t init) e
+        ∙ gives u v (kind.Primitive t init) e
 
   module _ (t : Ty) (d : Expr) (e : f.kind ≡ kind.Derived t d) where
     pub ready_derivation : (v y : List Value) → IsRead s.parts s.instance g v → y ≡ v → IsReady s (g + 1) y (tree d)
@@ -194,10 +203,10 @@ module _ (s : Setting) (fine : IsSetting s) (g : ℕ) (f : Function) (there : sl
         let own : IsDerivation (signature s.parts) (types_of f.formals) g t d = kind_is (kind.Derived t d) e in
         i ∙ ap (λ y. tree_value s y (tree d)) q
         ∙ value_agrees (world s) (old_reads s) (new_reads s) (old_reads s) (old_reads s) (IsEarlier s.parts.functions g) (λ g v n. refl) (tree d) v own.reads_earlier
-        ∙ gives v (kind.Derived t d) e
+        ∙ gives (entry_of s.old) v (kind.Derived t d) e
 
-  pub gives_operation : (es : List Effect) → f.kind ≡ kind.Operation es → (v : List Value) → value.Unknown ≡ old_reads s g v
-  gives_operation es e v = gives v (kind.Operation es) e
+  pub gives_operation : (u : Store) (es : List Effect) → f.kind ≡ kind.Operation es → (v : List Value) → value.Unknown ≡ look (world s) s.parts.functions u g v
+  gives_operation u es e v = gives u v (kind.Operation es) e
 
-  pub gives_both : (t : Ty) (es : List Effect) → f.kind ≡ kind.Both t es → (v : List Value) → value.Unknown ≡ old_reads s g v
-  gives_both t es e v = gives v (kind.Both t es) e
+  pub gives_both : (u : Store) (t : Ty) (es : List Effect) → f.kind ≡ kind.Both t es → (v : List Value) → value.Unknown ≡ look (world s) s.parts.functions u g v
+  gives_both u t es e v = gives u v (kind.Both t es) e

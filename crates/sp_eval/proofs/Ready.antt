@@ -21,20 +21,22 @@ use Rattle.sp_core.specs.declared.function.Formal.{Formal}
 use Rattle.sp_core.specs.declared.function.Function.{Function}
 use Rattle.sp_core.specs.declared.function.Kind.{Kind}
 use Rattle.sp_core.specs.declared.function.Kind.TheVariants as kind
-use Rattle.sp_core.specs.Instances.{filling_of}
-use Rattle.sp_core.specs.Machine.{types_of}
+use Rattle.sp_core.specs.Instances.{filling_of, machine_of}
+use Rattle.sp_core.specs.Machine.{IsPlace, types_of}
 use Rattle.sp_core.specs.Measures.{LookAt, LooksAt, quantifiers_in}
 use Rattle.sp_core.specs.Parts.{signature}
 use Rattle.sp_core.specs.States.{entry_of}
 use Rattle.sp_core.specs.Tree.{Tree, Trees, Two, Param, Look, Every, New, Var, count, none, more, tree, trees_of}
-use Rattle.sp_core.specs.Typing.{HasType, HaveTypes, IsTyped as IsTypedOperator, primitive_type, read_type}
+use Rattle.sp_core.specs.Typing.{HasType, HaveTypes, MakesType, primitive_type, read_type}
 use Rattle.sp_core.specs.Values.{is_true, level_number}
 use Rattle.sp_core.specs.WellFormed.{IsParam}
-use Rattle.sp_core.proofs.StatesTyped.{are_values-append}
+use Rattle.sp_core.proofs.Bindings.{are_values-append}
+use Rattle.sp_core.proofs.StatesTyped.{initial_of}
 use Rattle.sp_core.proofs.Types.{both_true, level_typed, look_typed, member_typed, value_typed, values_typed}
 use Rattle.sp_eval.specs.Conditions.{IsRead}
 use Rattle.sp_eval.specs.Settings.{AreReady, IsBody, IsOperand, IsRankedBelow, IsReady, IsSetting, Setting, new_reads, old_reads, population, proper_at, sizes, tree_value, tree_values}
-use Rattle.sp_eval.proofs.TreeLemmas.{count-trees, tree-Var, tree-Two, tree-Param, tree-Look, tree-Every, tree-New}
+use Rattle.sp_core.proofs.TreeLemmas.{tree-Var, tree-Two, tree-Param, tree-Look, tree-Every, tree-New}
+use Rattle.sp_eval.proofs.Nodes.{count-trees}
 
 pub length_typed : (sz : Sizes) (ts : List Ty) (vs : List Value) → are_values sz ts vs ≡ true → length vs ≡ length ts
 length_typed sz [] [] h = refl
@@ -64,7 +66,7 @@ integer_operand sz (value.Truth b) e = cc
 integer_operand sz (value.Level l) e = cc
 integer_operand sz (value.Member k m) e = cc
 
-operand : (sz : Sizes) (o : Op) (u t : Ty) (v : Value) → IsTypedOperator o u t → is_value sz u v ≡ true → IsOperand sz.levels o v
+operand : (sz : Sizes) (o : Op) (u t : Ty) (v : Value) → MakesType o u t → is_value sz u v ≡ true → IsOperand sz.levels o v
 operand sz op.And u t v h x = tt
 operand sz op.Or u t v h x = tt
 operand sz op.Same u t v h x = tt
@@ -128,12 +130,6 @@ count-have s xs [] none h = refl
 count-have s xs (t ∷ ts) none h = absurd h
 count-have s xs [] (more d ds) h = absurd h
 count-have s xs (t ∷ ts) (more d ds) h = ap suc (count-have s xs ts ds h.1)
-
-primitive_reads : (k : Kind) (t : Ty) → primitive_type k ≡ Some t → read_type k ≡ Some t
-primitive_reads (kind.Primitive u e) t h = h
-primitive_reads (kind.Derived u e) t h = cc
-primitive_reads (kind.Operation es) t h = cc
-primitive_reads (kind.Both u es) t h = cc
 
 module _ (s : Setting) (n : ℕ) (x : List Value) where
   abbrev Ready : Tree → Type 0
@@ -242,12 +238,13 @@ module _ (s : Setting) (n : ℕ) (x : List Value) where
         let typed = typed_values r.typed.0 (trees_of (map tree as')) (types_of k.0.formals) r.typed.2.values k.3 r.reads.1 in
         ((k.0, r.typed.1, record { function = k.1; type = k.2; arguments = subst (λ vs. IsTrue (are_values (sizes s) (types_of k.0.formals) vs)) (sym q) typed }), r.reads.0)
 
-    pub new_place : (g : ℕ) (e : Expr) (ds as' : List Expr) → Ready (tree e) → e ≡ expr.New g ds → as' ≡ ds → (vs : List Value) → vs ≡ tree_values s x (trees_of (map tree as')) → IsRead s.parts s.instance g vs × IsRankedBelow s n g
+    pub new_place : (g : ℕ) (e : Expr) (ds as' : List Expr) → Ready (tree e) → e ≡ expr.New g ds → as' ≡ ds → (vs : List Value) → vs ≡ tree_values s x (trees_of (map tree as')) → IsPlace (machine_of s.parts (filling_of s.instance)) g vs × IsRankedBelow s n g
     new_place g e ds as' h i j vs q =
         let r = args_at (expr.New g) (New g) (tree-New g) e ds as' h i j in
         let k = r.typed.2.typed in
         let typed = typed_values r.typed.0 (trees_of (map tree as')) (types_of k.0.formals) r.typed.2.values k.3 r.reads.1 in
-        ((k.0, r.typed.1, record { function = k.1; type = primitive_reads k.0.kind r.typed.1 k.2; arguments = subst (λ vs. IsTrue (are_values (sizes s) (types_of k.0.formals) vs)) (sym q) typed }), r.reads.0)
+        let init = initial_of k.0.kind r.typed.1 k.2 in
+        ((k.0, r.typed.1, init.0, record { function = k.1; primitive = init.1; arguments = subst (λ vs. IsTrue (are_values (sizes s) (types_of k.0.formals) vs)) (sym q) typed }), r.reads.0)
 
   -- one of the arguments
   pub ready_part : (ds : List Expr) (k : ℕ) (d : Expr) → AreReady s n x (trees_of (map tree ds)) → k < length ds → d ≡ get_or ds k d → Ready (tree d)

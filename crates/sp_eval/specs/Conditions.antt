@@ -21,14 +21,14 @@ pub record IsGiven (p : Parts) (i : InstanceParts) (entries : List Entry) : Type
 
 -- the values are those of the instance, of the types xs, and the expression has type t over these; the values and the
 -- quantifiers in one another are at most sixteen together
-pub record IsTypedIn (p : Parts) (i : InstanceParts) (x : List Value) (e : Tree) (xs : List Ty) (t : Ty) : Type 0 where
+pub record IsTypedInAs (p : Parts) (i : InstanceParts) (x : List Value) (e : Tree) (xs : List Ty) (t : Ty) : Type 0 where
   pub values : IsTrue (are_values (sizes_of p (filling_of i)) xs x)
   pub typed : HasType (signature p) xs e t
   pub room : length x + quantifiers e ≤ 16
 
 -- the expression has a type in the environment
-abbrev pub IsTyped : Parts → InstanceParts → List Value → Tree → Type 0
-IsTyped p i x e = (xs : List Ty) × (t : Ty) × IsTypedIn p i x e xs t
+abbrev pub IsTypedIn : Parts → InstanceParts → List Value → Tree → Type 0
+IsTypedIn p i x e = (xs : List Ty) × (t : Ty) × IsTypedInAs p i x e xs t
 
 -- no new value is read
 abbrev pub HasNoNew : Tree → Type 0
@@ -36,7 +36,7 @@ HasNoNew e = LooksAt Anything Nothing e
 
 -- the value has each type that the expression has in the environment
 abbrev pub HasItsType : Parts → InstanceParts → List Value → Tree → Value → Type 0
-HasItsType p i x e v = (xs : List Ty) (t : Ty) → IsTypedIn p i x e xs t → IsTrue (is_value (sizes_of p (filling_of i)) t v)
+HasItsType p i x e v = (xs : List Ty) (t : Ty) → IsTypedInAs p i x e xs t → IsTrue (is_value (sizes_of p (filling_of i)) t v)
 
 -- function g is a V-function of type t, primitive or derived, and v are values of its formals' types
 pub record IsReadOf (p : Parts) (i : InstanceParts) (g : ℕ) (v : List Value) (f : Function) (t : Ty) : Type 0 where

@@ -1,3 +1,5 @@
 pub mod Conditions
 pub mod Settings
 pub mod Admissible
+pub mod Overlays
+pub mod Laws

@@ -1,6 +1,6 @@
 -- What expressions are evaluated over, and what the parts of the evaluator ask of one another. The numbering of proper
 -- values is for each layer that goes over them.
-use Rattle.std.specs.Prelude.{ℕ, ◌+◌, ◌<◌, ◌≤◌, not, ◌==◌, IsTrue, List, [], ◌∷◌, ◌++◌, length, Option, Some, None}
+use Rattle.std.specs.Prelude.{ℕ, ◌+◌, ◌<◌, ◌≤◌, not, ◌==◌, IsTrue, List, [], ◌∷◌, ◌++◌, length}
 use Rattle.sp_values.specs.declared.value.Ty.{Ty}
 use Rattle.sp_values.specs.declared.value.Ty.TheVariants as ty
 use Rattle.sp_values.specs.declared.value.Op.{Op}
@@ -14,12 +14,12 @@ use Rattle.sp_core.specs.Instances.{InstanceParts, IsInstanceOf, filling_of, mac
 use Rattle.sp_core.specs.Machine.{IsState}
 use Rattle.sp_core.specs.Measures.{LookAt, LooksAt, quantifiers, quantifiers_in, rank}
 use Rattle.sp_core.specs.Parts.{Parts, signature}
-use Rattle.sp_core.specs.States.{Held, entry_of}
+use Rattle.sp_core.specs.States.{entry_of}
 use Rattle.sp_core.specs.Tree.{Tree, Trees}
 use Rattle.sp_core.specs.Typing.{HasType, HaveTypes, is_finite}
 use Rattle.sp_core.specs.Values.{Reads, World, level_number, look, value_of, values_of}
 use Rattle.sp_core.specs.WellFormed.{IsWellFormed}
-use Rattle.sp_eval.specs.Conditions.{IsTyped}
+use Rattle.sp_eval.specs.Conditions.{IsTypedIn}
 
 -- a specification with an instance, and the entries of an old and of a new state
 pub record Setting : Type 0 where
@@ -27,11 +27,6 @@ pub record Setting : Type 0 where
   pub instance : InstanceParts
   pub old : List Entry
   pub new : List Entry
-
--- the entries of a state; where there is none, those of the initial state
-abbrev pub entries_in : Option Held → List Entry
-entries_in None = []
-entries_in (Some held) = held.entries
 
 -- well-formed parts, an instance of them, and two states of their machine
 pub record IsSetting (s : Setting) : Type 0 where
@@ -66,7 +61,7 @@ IsRankedBelow s bound g = rank s.parts.functions g < bound
 
 -- the expression is typed in the environment, and the functions that it reads have ranks below the bound
 pub record IsReady (s : Setting) (bound : ℕ) (x : List Value) (e : Tree) : Type 0 where
-  pub typed : IsTyped s.parts s.instance x e
+  pub typed : IsTypedIn s.parts s.instance x e
   pub reads : LooksAt (IsRankedBelow s bound) (IsRankedBelow s bound) e
 
 -- the same of expressions of the types ts

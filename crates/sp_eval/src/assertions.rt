@@ -6,6 +6,7 @@ ghost use Rattle.sp_eval.specs.Admissible.{HoldsForAll, IsClaim, IsFirstFalse};
 ghost use Rattle.sp_eval.specs.Settings as setting;
 
 use crate::domains::{is_true, proper};
+use crate::entries::InitialState;
 use crate::env::Env;
 use crate::evaluator::Evaluator;
 use sp_core::{Expr, Formal, Instance, Spec};
@@ -16,7 +17,12 @@ use sp_values::Args;
 pub struct AssertionFalse(pub u32);
 
 // Whether the body is TRUE for all proper values of the variables, put after the values of the environment.
-fn holds_for_all(evaluator: &Evaluator, vars: &[Formal], env: &Env, body: &Expr) -> bool
+fn holds_for_all(
+    evaluator: &Evaluator<InitialState, InitialState>,
+    vars: &[Formal],
+    env: &Env,
+    body: &Expr,
+) -> bool
     requires { IsClaim evaluator.now (types_of vars.now) env.now (tree body.now) }
     ensures { IsTrue result ↔ HoldsForAll (setting.world evaluator.now) (types_of vars.now) env.now (tree body.now) }
 {
@@ -42,7 +48,7 @@ pub fn admissible<'a>(spec: &'a Spec, inst: &'a Instance) -> Result<(), Assertio
     ensures first { IfErr result (λ fault. IsFirstFalse spec.now (filling_of inst.now) fault.0) }
 {
     let assertions = spec.assertions();
-    let evaluator = Evaluator::new(spec, inst, None, None);
+    let evaluator = Evaluator::new(spec, inst, &InitialState, &InitialState);
     let none = Env::new(&Args::new(&[]));
     for (index, assertion) in assertions.iter().enumerate() {
         if !holds_for_all(&evaluator, assertion.vars.items(), &none, &assertion.body) {

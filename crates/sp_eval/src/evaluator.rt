@@ -2,9 +2,9 @@
 
 ghost use Rattle.std.specs.Prelude.{◌≡◌, ◌≤◌, ◌<◌, ◌+◌, ◌++◌, ◌∷◌, [], IsTrue, length, map};
 ghost use Rattle.std.specs.List.{list_all};
-ghost use Rattle.std.specs.Option.{option_copied};
-ghost use Rattle.sp_core.specs.States.{entry_of};
 ghost use Rattle.sp_values.specs.Domains.{proper_values};
+ghost use Rattle.sp_core.specs.Instances.{filling_of, machine_of};
+ghost use Rattle.sp_core.specs.Machine.{IsPlace};
 ghost use Rattle.sp_core.specs.Parts.{signature};
 ghost use Rattle.sp_core.specs.Tree.{tree, trees_of};
 ghost use Rattle.sp_core.specs.Typing.{is_type};
@@ -12,59 +12,44 @@ ghost use Rattle.sp_core.specs.Values as meaning;
 ghost use Rattle.sp_core.specs.WellFormed.{IsWellFormed};
 ghost use Rattle.sp_eval.specs.Conditions.{IsRead};
 ghost use Rattle.sp_eval.specs.Settings as setting;
-ghost use Rattle.sp_eval.specs.Settings.{AreReady, IsBody, IsOperand, IsRankedBelow, IsReady, IsSetting, entries_in, population, proper_at, tree_value, tree_values};
+ghost use Rattle.sp_eval.specs.Settings.{AreReady, IsBody, IsOperand, IsRankedBelow, IsReady, IsSetting, population, proper_at, tree_value, tree_values};
 
 use crate::domains::{is_true, level_number, population, proper};
+use crate::entries::Entries;
 use crate::env::Env;
-use sp_core::{Expr, Instance, Kind, Spec, State};
+use sp_core::{Expr, Instance, Kind, Spec};
 use sp_values::{Args, Op, Place, Ty, Value, add, int_le, int_lt, mul, sub};
 use std::marker::Model;
 
-// The entry of the place; the initial state, which stands where there is none, has no entries.
-fn entry(state: Option<&State>, place: &Place) -> Option<Value>
-    ensures { result ≡ entry_of (entries_in (option_copied state.entry)) place.now.fun place.now.args }
-{
-    match state {
-        Some(state) => state.at(place),
-        None => None,
-    }
-}
-
-/// What expressions are evaluated over. The initial state stands where there is no state.
+/// What expressions are evaluated over: a specification with an instance, and an old and a new state.
 #[derive(Drop)]
-pub struct Evaluator<'a> {
+pub struct Evaluator<'a, B: Entries, N: Entries> {
     spec: &'a Spec,
     inst: &'a Instance,
-    old: Option<&'a State>,
-    new: Option<&'a State>,
+    old: &'a B,
+    new: &'a N,
 }
 
-impl<'a> Model for Evaluator<'a> {
-    ghost use Rattle.std.specs.Option.{option_copied};
+impl<'a, B: Entries, N: Entries> Model for Evaluator<'a, B, N> {
     ghost use Rattle.std.specs.Coded.{codes};
     ghost use Rattle.sp_core.specs.contracts.expr.Expr as expr;
     ghost use Rattle.sp_core.specs.contracts.function.Effect as effect;
-    ghost use Rattle.sp_eval.specs.Settings.{IsSetting, Setting, entries_in};
+    ghost use Rattle.sp_eval.specs.Settings.{IsSetting, Setting};
 
     ghost Value = { Setting };
 
     ghost coded = { Prim.hlevel (codes, expr.the_row.coded, effect.the_row.coded) };
 
-    ghost view = { λ a. record { parts = a.spec.now; instance = a.inst.now; old = entries_in (option_copied a.old); new = entries_in (option_copied a.new) } };
+    ghost view = { λ a. record { parts = a.spec.now; instance = a.inst.now; old = B.entries a.old.now; new = N.entries a.new.now } };
 
-    ghost invariant = { λ a. IsSetting (record { parts = a.spec.now; instance = a.inst.now; old = entries_in (option_copied a.old); new = entries_in (option_copied a.new) }) };
+    ghost invariant = { λ a. IsSetting (record { parts = a.spec.now; instance = a.inst.now; old = B.entries a.old.now; new = N.entries a.new.now }) };
 }
 
-impl<'a> Evaluator<'a> {
+impl<'a, B: Entries, N: Entries> Evaluator<'a, B, N> {
     /// Over these two states.
-    pub fn new(
-        spec: &'a Spec,
-        inst: &'a Instance,
-        old: Option<&'a State>,
-        new: Option<&'a State>,
-    ) -> Evaluator<'a>
-        requires { IsSetting (record { parts = spec.now; instance = inst.now; old = entries_in (option_copied old); new = entries_in (option_copied new) }) }
-        ensures value { result ≡ record { parts = spec.now; instance = inst.now; old = entries_in (option_copied old.entry); new = entries_in (option_copied new.entry) } }
+    pub fn new(spec: &'a Spec, inst: &'a Instance, old: &'a B, new: &'a N) -> Evaluator<'a, B, N>
+        requires { IsSetting (record { parts = spec.now; instance = inst.now; old = B.entries old.now; new = N.entries new.now }) }
+        ensures value { result ≡ record { parts = spec.now; instance = inst.now; old = B.entries old.now; new = N.entries new.now } }
         ensures setting { IsSetting result }
     {
         Evaluator {
@@ -114,18 +99,6 @@ impl<'a> Evaluator<'a> {
         }
     }
 
-    // Over the new state alone.
-    fn after(&self) -> Evaluator<'a>
-        ensures { result ≡ record self.now { old = self.now.new } }
-    {
-        Evaluator {
-            spec: self.spec,
-            inst: self.inst,
-            old: self.new,
-            new: self.new,
-        }
-    }
-
     /// The value of an expression. The functions that it reads have ranks below the bound.
     #[cycle(eval)]
     pub fn value(&self, bound: usize, env: &Env, e: &Expr) -> Value
@@ -161,7 +134,7 @@ impl<'a> Evaluator<'a> {
             }
             Expr::New(g, parts) => {
                 let args = self.arguments(bound, env, parts.as_slice());
-                self.after().look(bound, &Place { fun: *g, args })
+                self.look_new(bound, &Place { fun: *g, args })
             }
         }
     }
@@ -204,13 +177,30 @@ impl<'a> Evaluator<'a> {
     {
         let env = Env::new(&place.args);
         match &self.spec.functions()[place.fun as usize].kind {
-            Kind::Primitive(_, initial) => match entry(self.old, place) {
+            Kind::Primitive(_, initial) => match self.old.find(place) {
                 Some(value) => value,
                 None => self.value(0, &env, initial),
             },
             Kind::Derived(_, derivation) => self.value(place.fun as usize + 1, &env, derivation),
             Kind::Operation(_) => Value::Unknown,
             Kind::Both(_, _) => Value::Unknown,
+        }
+    }
+
+    // What a primitive function gives in the new state.
+    #[cycle(eval)]
+    fn look_new(&self, bound: usize, place: &Place) -> Value
+        requires place { IsPlace (machine_of self.now.parts (filling_of self.now.instance)) place.now.fun place.now.args }
+        requires rank { IsRankedBelow self.now bound place.now.fun }
+        ensures { result ≡ setting.new_reads self.now place.now.fun place.now.args }
+    {
+        let Kind::Primitive(_, initial) = &self.spec.functions()[place.fun as usize].kind else {
+            return Value::Unknown;
+        };
+        let env = Env::new(&place.args);
+        match self.new.find(place) {
+            Some(value) => value,
+            None => self.value(0, &env, initial),
         }
     }
 }

@@ -4,11 +4,15 @@
 
 mod assertions;
 mod domains;
+mod entries;
 mod env;
 mod evaluator;
+mod laws;
 mod values;
 
 pub use assertions::{AssertionFalse, admissible};
 pub use domains::{is_true, population, proper};
+pub use entries::{Entries, InitialState, Overlay};
 pub use env::Env;
-pub use values::{eval, eval_new, level, look};
+pub use laws::{overlay_law, overlay_state_law, proper_law};
+pub use values::{eval, eval_new, eval_over, level, look};

@@ -1,8 +1,17 @@
+mod InstanceLemmas
+pub mod TreeLemmas
+pub mod Elements
 pub mod Agree
+pub mod Fronts
 pub mod Looks
-pub mod Unique
-pub mod Steps
 pub mod Types
+pub mod Bindings
+pub mod EffectsTyped
+pub mod Levels
+pub mod RankLemmas
+pub mod Unique
+pub mod OneResult
 pub mod StatesTyped
-pub mod InstanceLemmas
+pub mod Steps
+pub mod Lists
 pub mod StateLemmas

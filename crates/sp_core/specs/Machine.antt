@@ -15,7 +15,7 @@ use Rattle.sp_core.specs.declared.function.Answer.{Answer}
 use Rattle.sp_core.specs.declared.function.Answer.TheVariants as answer
 use Rattle.sp_core.specs.Tree.{Tree, tree}
 use Rattle.sp_core.specs.Effects.{GuardedChange, GuardedResult, changes_in, results_in, effect_trees}
-use Rattle.sp_core.specs.Ranks.{of_rank, ranks}
+use Rattle.sp_core.specs.Ranks.{of_rank, rank_count}
 use Rattle.sp_core.specs.Values.{World, Store, is_true, level_number, value_of, values_of, nothing, look, value_in, value_over}
 
 -- the lattice and instance, and the functions of the specification
@@ -121,7 +121,7 @@ Stage m s i as' (suc k) u = (v : Store) × Stage m s i as' k v × Changes m s v 
 
 -- t is the state after the changes of all ranks
 abbrev pub ChangesByRank : Machine → Store → Invocation → List GuardedChange → Store → Type 0
-ChangesByRank m s i as' t = Stage m s i as' (ranks as') t
+ChangesByRank m s i as' t = Stage m s i as' (rank_count as') t
 
 -- two true changes give one place different values, over the old state s and the state u before their rank
 pub record IsConflictOf (m : Machine) (s u : Store) (i : Invocation) (as' : List GuardedChange) (a b : GuardedChange) (cs ds : List Value) : Type 0 where
@@ -136,7 +136,7 @@ Conflict m s u i as' = (a : GuardedChange) × (b : GuardedChange) × (cs : List 
 
 -- the changes of a rank conflict, before which is state u
 pub record IsRankInConflict (m : Machine) (s : Store) (i : Invocation) (as' : List GuardedChange) (k : ℕ) (u : Store) : Type 0 where
-  pub rank : k < ranks as'
+  pub rank : k < rank_count as'
   pub before : Stage m s i as' k u
   pub conflict : Conflict m s u i (of_rank as' k)
 
@@ -187,10 +187,10 @@ MeetsConflict m s i = (f : Function) × MeetsConflictOf m s i f
 
 -- the runs of a step relation: its steps for a list of invocations, one after the other
 abbrev pub RunBy : (Store → Invocation → Answer → Store → Type 0) → Store → List Invocation → List Answer → Store → Type 0
-RunBy Single s [] [] t = t ≡ s
-RunBy Single s (i ∷ is') (a ∷ as') t = (u : Store) × Single s i a u × RunBy Single u is' as' t
-RunBy Single s [] (a ∷ as') t = ⊥
-RunBy Single s (i ∷ is') [] t = ⊥
+RunBy Steps s [] [] t = t ≡ s
+RunBy Steps s (i ∷ is') (a ∷ as') t = (u : Store) × Steps s i a u × RunBy Steps u is' as' t
+RunBy Steps s [] (a ∷ as') t = ⊥
+RunBy Steps s (i ∷ is') [] t = ⊥
 
 -- the run relation
 abbrev pub Run : Machine → Store → List Invocation → List Answer → Store → Type 0

@@ -81,8 +81,8 @@ abbrev pub change_rank : List GuardedChange → ℕ → ℕ
 change_rank as' g = longest_within as' (length as') g
 
 -- how many ranks the changed functions have, from 0 on
-abbrev pub ranks : List GuardedChange → ℕ
-ranks as' = greatest (λ g. suc (change_rank as' g)) (map (λ a. a.fun) as')
+abbrev pub rank_count : List GuardedChange → ℕ
+rank_count as' = greatest (λ g. suc (change_rank as' g)) (map (λ a. a.fun) as')
 
 -- the changes of functions of rank k
 abbrev pub of_rank : List GuardedChange → ℕ → List GuardedChange

@@ -33,21 +33,21 @@ pub record Alike (m : Machine) (l : ℕ) (s t : Store) : Type 0 where
 
 -- from every state each list of invocations has exactly one run of the step relation: its answers and its final state are
 -- determined
-pub record HasOneRunBy (m : Machine) (Single : Store → Invocation → Answer → Store → Type 0) : Type 0 where
-  pub run : (s : Store) (is' : List Invocation) → IsState m s → All (IsInvocation m) is' → (as' : List Answer) × (t : Store) × RunBy Single s is' as' t
+pub record HasOneRunBy (m : Machine) (Steps : Store → Invocation → Answer → Store → Type 0) : Type 0 where
+  pub run : (s : Store) (is' : List Invocation) → IsState m s → All (IsInvocation m) is' → (as' : List Answer) × (t : Store) × RunBy Steps s is' as' t
   pub one : (s : Store) (is' : List Invocation) → IsState m s → All (IsInvocation m) is' →
-      (as' bs : List Answer) (t u : Store) → RunBy Single s is' as' t → RunBy Single s is' bs u → (as' ≡ bs) × (t ≡ u)
+      (as' bs : List Answer) (t u : Store) → RunBy Steps s is' as' t → RunBy Steps s is' bs u → (as' ≡ bs) × (t ≡ u)
 
 -- for every level, all states that are alike there, and every list: the run of the purged list from the one state answers
 -- what is seen of the run of the whole list from the other, and the final states are alike
-pub record HidesAboveBy (m : Machine) (Single : Store → Invocation → Answer → Store → Type 0) : Type 0 where
+pub record HidesAboveBy (m : Machine) (Steps : Store → Invocation → Answer → Store → Type 0) : Type 0 where
   pub hides : (l : ℕ) (s t : Store) (is' : List Invocation) → l < m.world.sizes.levels → IsState m s → IsState m t → Alike m l s t → All (IsInvocation m) is' →
-      (as' bs : List Answer) (s' t' : Store) → RunBy Single s is' as' s' → RunBy Single t (purge m l is') bs t' → (bs ≡ seen m l is' as') × Alike m l s' t'
+      (as' bs : List Answer) (s' t' : Store) → RunBy Steps s is' as' s' → RunBy Steps t (purge m l is') bs t' → (bs ≡ seen m l is' as') × Alike m l s' t'
 
 -- a step relation is secure on the machine's states and invocations
-pub record IsSecureBy (m : Machine) (Single : Store → Invocation → Answer → Store → Type 0) : Type 0 where
-  pub one_run : HasOneRunBy m Single
-  pub hides_above : HidesAboveBy m Single
+pub record IsSecureBy (m : Machine) (Steps : Store → Invocation → Answer → Store → Type 0) : Type 0 where
+  pub one_run : HasOneRunBy m Steps
+  pub hides_above : HidesAboveBy m Steps
 
 -- the same of a machine's own step
 abbrev pub HasOneRun : Machine → Type 0
@@ -63,10 +63,10 @@ IsSecureMachine m = IsSecureBy m (Step m)
 -- What a step relation does in single steps that makes lists of them secure: it leads from states to states and has one
 -- outcome; a step above a level leaves the state alike there, and one at or below it answers the same from alike states and
 -- leads to alike ones.
-pub record IsSecureInSteps (m : Machine) (Single : Store → Invocation → Answer → Store → Type 0) : Type 0 where
-  pub typed : (s t : Store) (i : Invocation) (a : Answer) → IsState m s → IsInvocation m i → Single s i a t → IsState m t
-  pub some : (s : Store) (i : Invocation) → IsState m s → IsInvocation m i → (a : Answer) × (t : Store) × Single s i a t
-  pub one : (s t u : Store) (i : Invocation) (a b : Answer) → IsState m s → IsInvocation m i → Single s i a t → Single s i b u → (a ≡ b) × (t ≡ u)
-  pub quiet : (l : ℕ) (s t : Store) (i : Invocation) (a : Answer) → l < m.world.sizes.levels → IsState m s → IsInvocation m i → is_seen m l i ≡ false → Single s i a t → Alike m l s t
+pub record IsSecureInSteps (m : Machine) (Steps : Store → Invocation → Answer → Store → Type 0) : Type 0 where
+  pub typed : (s t : Store) (i : Invocation) (a : Answer) → IsState m s → IsInvocation m i → Steps s i a t → IsState m t
+  pub some : (s : Store) (i : Invocation) → IsState m s → IsInvocation m i → (a : Answer) × (t : Store) × Steps s i a t
+  pub one : (s t u : Store) (i : Invocation) (a b : Answer) → IsState m s → IsInvocation m i → Steps s i a t → Steps s i b u → (a ≡ b) × (t ≡ u)
+  pub quiet : (l : ℕ) (s t : Store) (i : Invocation) (a : Answer) → l < m.world.sizes.levels → IsState m s → IsInvocation m i → is_seen m l i ≡ false → Steps s i a t → Alike m l s t
   pub alike : (l : ℕ) (s t s' t' : Store) (i : Invocation) (a b : Answer) → l < m.world.sizes.levels → IsState m s → IsState m t → IsInvocation m i → is_seen m l i ≡ true → Alike m l s t →
-      Single s i a s' → Single t i b t' → (b ≡ a) × Alike m l s' t'
+      Steps s i a s' → Steps t i b t' → (b ≡ a) × Alike m l s' t'

@@ -1,14 +1,15 @@
 -- From the tables that a declaration fills to the order of its pairs, and to the lattice's value.
-use Rattle.std.proofs.Common.{◌≡◌, ℕ, ◌+◌, ◌*◌, ◌<◌, ◌≤◌, ◌&&◌, ◌↔◌, ⊎_elim, Bool, List, length, slice_index, refl, sym, ap, ◌∙◌, arith}
-use Rattle.std.proofs.lemmas.Bool.{cases_order, lt-ltb}
+use Rattle.std.proofs.Common.{◌≡◌, ℕ, ◌+◌, ◌*◌, ◌<◌, ◌≤◌, ◌↔◌, ⊎_elim, Bool, List, length, slice_index, refl, sym, ◌∙◌, arith}
+use Rattle.std.proofs.lemmas.Bool.{cases_order}
 use Rattle.sp_lattice.specs.Bounds.{IsPartialOrder, IsLeastUpper, IsGreatestLower, IsLattice, EachHasLub}
 use Rattle.sp_lattice.specs.Closure.{here, IsOrdered}
-use Rattle.sp_lattice.specs.Order.{Order, is_below, IsBelow, IsOrderOf}
+use Rattle.sp_lattice.specs.Order.{Order, IsBelow, IsOrderOf}
 use Rattle.sp_lattice.specs.Refusal.{IsFirstPair, IsCycle, HasNoLub, HasNoGlb, IsRefused}
 use Rattle.sp_lattice.specs.Table.{entry, IsRelated, AreLubs, IsGreatest, IsKept}
 use Rattle.sp_lattice.specs.declared.decl.LatticeFault.{LatticeFault}
 use Rattle.sp_lattice.specs.declared.decl.LatticeFault.TheVariants.{TooManyLevels, Empty, Cycle, NoLub, NoGlb, Memory}
 use Rattle.sp_lattice.proofs.Closing.{Path-append}
+use Rattle.sp_lattice.proofs.OrderLaws.{below_entry}
 use Rattle.sp_lattice.proofs.Orders.{join_is, meet_is, bottom_is, top_is, above_first, lattice_order}
 
 -- the first pair of one property is the first of another that holds of the same levels
@@ -143,15 +144,10 @@ only_memory count pairs (NoGlb x y) h some few lattice =
     absurd (h.3.there found.0 found.1)
 only_memory count pairs Memory h some few lattice = refl
 
--- below a level, the order's test is the table's entry
-pub below_entry : (o : Order) (x y : ℕ) → y < o.count → is_below o x y ≡ entry o.count o.table x y
-unfolding is_below
-below_entry o x y level = ap (λ b. b && entry o.count o.table x y) (lt-ltb y o.count level)
-
 pub related_below : (o : Order) (x y : ℕ) → x < o.count → y < o.count → (IsRelated o.count o.table x y ↔ IsBelow o x y)
 related_below o x y p q = (
-  λ r. below_entry o x y q ∙ r.there,
-  λ e. record { low = p; high = q; there = sym (below_entry o x y q) ∙ e },
+  λ r. below_entry o x y p q ∙ r.there,
+  λ e. record { low = p; high = q; there = sym (below_entry o x y p q) ∙ e },
 )
 
 -- the value of a table that has the order of the pairs
@@ -183,17 +179,16 @@ module _ (o : Order) (pairs : List (ℕ × ℕ)) (opposite : List Bool) (lubs gl
   glb_value x y p q = glb_of o.count pairs o.table order none opposite turned (related_below o) p q (are_glbs.each x y p q)
 
   least_value : (w : ℕ) → w < o.count → IsBelow o least w
-  least_value w p = below_entry o least w p ∙ sym (turned w least p is_least.level) ∙ (is_least.above w p).there
+  least_value w p = below_entry o least w is_least.level p ∙ sym (turned w least p is_least.level) ∙ (is_least.above w p).there
 
   greatest_value : (w : ℕ) → w < o.count → IsBelow o w greatest
-  greatest_value w p = below_entry o w greatest is_greatest.level ∙ (is_greatest.above w p).there
+  greatest_value w p = below_entry o w greatest p is_greatest.level ∙ (is_greatest.above w p).there
 
   -- the tables and ends that a lattice keeps
   pub kept_value : IsKept o lubs glbs least greatest
   kept_value = record {
-    lattice = lattice_order o some few partial_value (λ x y p q. (slice_index lubs (x * o.count + y), lub_value x y p q)) (λ x y p q. (slice_index glbs (x * o.count + y), glb_value x y p q))
+    lattice = lattice_order o some few square partial_value (λ x y p q. (slice_index lubs (x * o.count + y), lub_value x y p q)) (λ x y p q. (slice_index glbs (x * o.count + y), glb_value x y p q))
         least greatest is_least.level least_value is_greatest.level greatest_value;
-    square = square;
     lubs_whole = are_lubs.whole;
     glbs_whole = are_glbs.whole;
     joins = λ x y p q. sym (join_is o partial_value x y (slice_index lubs (x * o.count + y)) (lub_value x y p q));

@@ -1,7 +1,8 @@
-pub mod Closing
-pub mod Declared
-pub mod Entries
-pub mod Orders
-pub mod Places
-pub mod Products
-pub mod Uppers
+mod Closing
+mod Declared
+mod Entries
+pub mod OrderLaws
+mod Orders
+mod Places
+mod Products
+mod Uppers

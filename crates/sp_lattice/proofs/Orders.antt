@@ -1,5 +1,5 @@
 -- Orders as values: their tests as relations, and that the bounds and ends found by these are the bounds and ends.
-use Rattle.std.proofs.Common.{◌≡◌, ℕ, zero, suc, ◌+◌, ◌<◌, ◌≤◌, ◌&&◌, ◌||◌, not, ⊎_elim, Bool, true, false, Some, cond, unwrap_or, refl, sym, ap, ◌∙◌, subst, arith}
+use Rattle.std.proofs.Common.{◌≡◌, ℕ, zero, suc, ◌+◌, ◌*◌, ◌<◌, ◌≤◌, ◌&&◌, ◌||◌, not, ⊎_elim, Bool, true, false, Some, cond, length, unwrap_or, refl, sym, ap, ◌∙◌, subst, arith}
 use Rattle.std.specs.List.{find, list_all, range_with_len}
 use Rattle.std.proofs.lemmas.Bool.{cases_eq, cases_lt, and_parts, and_from, false≢true}
 use Rattle.sp_lattice.specs.Bounds.{IsPartialOrder, IsLeastUpper, IsGreatestLower, EachHasLub, EachHasGlb}
@@ -127,12 +127,13 @@ above_first count R partial lubs (suc k) some few = more (above_first count R pa
             (cases_lt w k)
 
 -- the order is a lattice's where it is a partial order with these bounds and ends
-pub lattice_order : (o : Order) → 0 < o.count → o.count ≤ 256 → IsPartialOrder o.count (IsBelow o) → EachHasLub o.count (IsBelow o) → EachHasGlb o.count (IsBelow o)
+pub lattice_order : (o : Order) → 0 < o.count → o.count ≤ 256 → length o.table ≡ o.count * o.count → IsPartialOrder o.count (IsBelow o) → EachHasLub o.count (IsBelow o) → EachHasGlb o.count (IsBelow o)
     → (least greatest : ℕ) → least < o.count → ((w : ℕ) → w < o.count → IsBelow o least w) → greatest < o.count → ((w : ℕ) → w < o.count → IsBelow o w greatest)
     → IsLatticeOrder o
-lattice_order o some few partial lubs glbs least greatest least_level least_is greatest_level greatest_is = record {
+lattice_order o some few square partial lubs glbs least greatest least_level least_is greatest_level greatest_is = record {
   some = some;
   few = few;
+  square = square;
   partial = partial;
   lubs = λ x y p q. let h = lubs x y p q in subst (λ z. IsLeastUpper o.count (IsBelow o) x y z) (sym (join_is o partial x y h.0 h.1)) h.1;
   glbs = λ x y p q. let h = glbs x y p q in subst (λ z. IsGreatestLower o.count (IsBelow o) x y z) (sym (meet_is o partial x y h.0 h.1)) h.1;

@@ -1,6 +1,6 @@
 -- A lattice as contracts see it: how many levels it has, and which of them are below which, with the bounds and ends
 -- that these determine. For each layer that compares levels or joins them.
-use Rattle.std.specs.Prelude.{◌≡◌, ℕ, ◌+◌, ◌*◌, ◌<◌, ◌≤◌, ◌&&◌, ◌||◌, not, Bool, false, List, IsTrue, nat_lt, slice_index_or, unwrap_or}
+use Rattle.std.specs.Prelude.{◌≡◌, ℕ, ◌+◌, ◌*◌, ◌<◌, ◌≤◌, ◌&&◌, ◌||◌, not, Bool, false, List, IsTrue, length, nat_lt, slice_index_or, unwrap_or}
 use Rattle.std.specs.List.{find, list_all, range_with_len}
 use Rattle.sp_lattice.specs.Bounds.{IsPartialOrder, IsLeastUpper, IsGreatestLower}
 
@@ -9,9 +9,9 @@ pub record Order : Type 0 where
   pub count : ℕ
   pub table : List Bool
 
--- whether level x is below level y, or the same
+-- whether x and y are levels, and x is below y or the same
 unfoldable pub is_below : Order → ℕ → ℕ → Bool
-is_below o x y = nat_lt y o.count && slice_index_or o.table (x * o.count + y) false
+is_below o x y = nat_lt x o.count && (nat_lt y o.count && slice_index_or o.table (x * o.count + y) false)
 
 abbrev pub IsBelow : Order → ℕ → ℕ → Type 0
 IsBelow o x y = IsTrue (is_below o x y)
@@ -45,10 +45,12 @@ bottom_level o = unwrap_or (find (λ z. list_all (λ w. is_below o z w) (levels 
 unfoldable pub top_level : Order → ℕ
 top_level o = unwrap_or (find (λ z. list_all (λ w. is_below o w z) (levels o)) (levels o)) 0
 
--- the order is a lattice of 1 to 256 levels, `join` and `meet` are its bounds, and the two ends are its ends
+-- the table has an entry for each two levels, the order is a lattice of 1 to 256 levels, `join` and `meet` are its bounds,
+-- and the two ends are its ends
 pub record IsLatticeOrder (o : Order) : Type 0 where
   pub some : 0 < o.count
   pub few : o.count ≤ 256
+  pub square : length o.table ≡ o.count * o.count
   pub partial : IsPartialOrder o.count (IsBelow o)
   pub lubs : (x y : ℕ) → x < o.count → y < o.count → IsLeastUpper o.count (IsBelow o) x y (join o x y)
   pub glbs : (x y : ℕ) → x < o.count → y < o.count → IsGreatestLower o.count (IsBelow o) x y (meet o x y)
@@ -62,3 +64,7 @@ pub record IsOrderOf (count : ℕ) (R : ℕ → ℕ → Type 0) (o : Order) : Ty
   pub count_same : o.count ≡ count
   pub below : (x y : ℕ) → x < count → y < count → R x y → IsBelow o x y
   pub only_below : (x y : ℕ) → x < count → y < count → IsBelow o x y → R x y
+
+-- the law: two orders with the same relation on the levels are one
+abbrev pub OneOrder : Type 0
+OneOrder = (o p : Order) → IsLatticeOrder o → IsLatticeOrder p → IsOrderOf p.count (IsBelow p) o → o ≡ p

@@ -34,7 +34,6 @@ pub record IsGreatest (count : ℕ) (table : List Bool) (z : ℕ) : Type 0 where
 -- what a lattice keeps beside its order: the bounds and the ends that the order has
 pub record IsKept (o : Order) (lubs glbs : List ℕ) (least greatest : ℕ) : Type 0 where
   pub lattice : IsLatticeOrder o
-  pub square : length o.table ≡ o.count * o.count
   pub lubs_whole : length lubs ≡ o.count * o.count
   pub glbs_whole : length glbs ≡ o.count * o.count
   pub joins : (x y : ℕ) → x < o.count → y < o.count → slice_index lubs (x * o.count + y) ≡ join o x y

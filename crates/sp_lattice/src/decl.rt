@@ -5,7 +5,7 @@ ghost use Rattle.sp_lattice.specs.Closure.{AreLevels, IsOrdered};
 ghost use Rattle.sp_lattice.specs.Product.{IsProductBelow, IsSubset};
 ghost use Rattle.sp_lattice.specs.Refusal.{IsProductRefused};
 
-use sp_text::Memory;
+use sp_text::{Memory, Sequence};
 use std::alloc::Global;
 
 /// The most levels that a lattice may have.
@@ -15,7 +15,7 @@ pub const MAX_LEVELS: u32 = 256;
 #[derive(Debug, Drop)]
 pub struct LatticeDecl {
     pub count: u32,
-    pub below: Vec<(u32, u32)>,
+    pub below: Sequence<(u32, u32)>,
 }
 
 /// Why levels make no lattice: by their number, or with the first two levels, the lesser number first, that are each
@@ -41,10 +41,10 @@ impl LatticeDecl {
         requires { 1 ≤ chain }
         ensures count { IfOk result (λ decl. decl.count ≡ chain * 2 ^ categories) }
         ensures few { IfOk result (λ decl. decl.count ≤ 256) }
-        ensures levels { IfOk result (λ decl. AreLevels decl.count decl.below.items) }
+        ensures levels { IfOk result (λ decl. AreLevels decl.count decl.below) }
         ensures order { IfOk result (λ decl. (x y : ℕ) → x < decl.count → y < decl.count
-            → (IsOrdered decl.below.items x y ↔ IsProductBelow categories x y)) }
-        ensures lattice { IfOk result (λ decl. IsLattice decl.count (IsOrdered decl.below.items)) }
+            → (IsOrdered decl.below x y ↔ IsProductBelow categories x y)) }
+        ensures lattice { IfOk result (λ decl. IsLattice decl.count (IsOrdered decl.below)) }
         ensures refused { IfErr result (IsProductRefused chain categories) }
     {
         let count = product_count(chain, categories);
@@ -52,7 +52,10 @@ impl LatticeDecl {
             return Err(LatticeFault::TooManyLevels(count));
         }
         let below = product_pairs(alloc, count, categories).map_err(|_| LatticeFault::Memory)?;
-        Ok(LatticeDecl { count, below })
+        Ok(LatticeDecl {
+            count,
+            below: Sequence::new(below),
+        })
     }
 }
 

@@ -39,14 +39,14 @@ impl Lattice {
     /// The first of these that holds: `TooManyLevels` over 256, `Empty` at none, `Cycle` where two levels are below
     /// each other, `NoLub` and `NoGlb` where two levels lack that bound. `Memory` where the tables can't be stored.
     pub fn declare(alloc: Global, decl: &LatticeDecl) -> Result<Lattice, LatticeFault>
-        requires { AreLevels decl.now.count decl.now.below.items }
-        ensures order { IfOk result (IsOrderOf decl.now.count (IsOrdered decl.now.below.items)) }
+        requires { AreLevels decl.now.count decl.now.below }
+        ensures order { IfOk result (IsOrderOf decl.now.count (IsOrdered decl.now.below)) }
         ensures lattice { IfOk result IsLatticeOrder }
-        ensures refused { IfErr result (IsRefused decl.now.count decl.now.below.items) }
+        ensures refused { IfErr result (IsRefused decl.now.count decl.now.below) }
 
         // A lattice of 1 to 256 levels is refused for want of memory alone.
         ensures accepted { 1 ≤ decl.now.count → decl.now.count ≤ 256
-            → IsLattice decl.now.count (IsOrdered decl.now.below.items) → IfErr result (λ fault. fault ≡ LatticeFault.Memory) }
+            → IsLattice decl.now.count (IsOrdered decl.now.below) → IfErr result (λ fault. fault ≡ LatticeFault.Memory) }
     {
         if decl.count > MAX_LEVELS {
             return Err(LatticeFault::TooManyLevels(decl.count));
@@ -55,7 +55,7 @@ impl Lattice {
             return Err(LatticeFault::Empty);
         }
         let count = decl.count as u16;
-        let order = closure(alloc, count, &decl.below).map_err(|_| LatticeFault::Memory)?;
+        let order = closure(alloc, count, decl.below.items()).map_err(|_| LatticeFault::Memory)?;
         if let Some((low, high)) = first_cycle(&order, count) {
             return Err(LatticeFault::Cycle(low, high));
         }

@@ -8,7 +8,7 @@ mod table;
 
 pub use decl::{LatticeDecl, LatticeFault, MAX_LEVELS};
 pub use lattice::Lattice;
-pub use laws::{product_is_lattice, product_numbers};
+pub use laws::{one_order, product_is_lattice, product_numbers};
 
 #[cfg(test)]
 mod tests;

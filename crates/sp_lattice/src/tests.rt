@@ -1,18 +1,20 @@
 ghost use Rattle.sp_lattice.specs.Closure.{AreLevels};
 
 use super::{Lattice, LatticeDecl, LatticeFault};
+use sp_text::Sequence;
 use std::alloc::Global;
 use std::test::Fail;
 
 fn fault(alloc: Global, count: u32, below: Vec<(u32, u32)>) -> Option<LatticeFault>
     requires { AreLevels count below.items }
 {
+    let below = Sequence::new(below);
     Lattice::declare(alloc, &LatticeDecl { count, below }).err()
 }
 
 #[test]
 fn two_levels_side_by_side_have_bounds(rt: HostRuntime) -> Result<(), Fail> {
-    let below = vec![in rt.alloc(); (0, 1), (1, 3), (0, 2), (2, 3)]?;
+    let below = Sequence::new(vec![in rt.alloc(); (0, 1), (1, 3), (0, 2), (2, 3)]?);
     let lattice = Lattice::declare(rt.alloc(), &LatticeDecl { count: 4, below })?.copy(rt.alloc())?;
     assert_eq!(rt; lattice.count(), 4);
     assert_eq!(rt; (lattice.bottom(), lattice.top()), (0, 3));

@@ -8,10 +8,10 @@ product_pairs-requires-clause-categories c = few_categories c.args.chain c.args.
 pub returns-clause-order : goal.returns-clause-order
 returns-clause-order c =
     let is : c.product_pairs.result ≡ Ok c.in_ok-below.below = search rules in
-    pairs_order c.args.categories c.product_count-count.result c.in_ok-below.below.items (rw is at c.product_pairs.ensures.sound) (rw is at c.product_pairs.ensures.whole)
+    rw c.new.ensures (pairs_order c.args.categories c.product_count-count.result c.in_ok-below.below.items (rw is at c.product_pairs.ensures.sound) (rw is at c.product_pairs.ensures.whole))
 
 pub returns-clause-lattice : goal.returns-clause-lattice
 returns-clause-lattice c =
     let is : c.product_pairs.result ≡ Ok c.in_ok-below.below = search rules in
     let same : c.product_count-count.result ≡ c.args.chain * 2 ^ c.args.categories = omega arith in
-    pairs_lattice c.args.categories c.product_count-count.result c.in_ok-below.below.items (rw is at c.product_pairs.ensures.sound) (rw is at c.product_pairs.ensures.whole) c.args.chain same
+    rw c.new.ensures (pairs_lattice c.args.categories c.product_count-count.result c.in_ok-below.below.items (rw is at c.product_pairs.ensures.sound) (rw is at c.product_pairs.ensures.whole) c.args.chain same)

@@ -7,21 +7,11 @@ use Rattle.sp_values.specs.declared.value.Op.{Op}
 use Rattle.sp_values.specs.Arithmetic.{IsInteger}
 use Rattle.sp_core.specs.declared.expr.Expr.{Expr}
 use Rattle.sp_core.specs.declared.expr.Expr.TheVariants as expr
-use Rattle.sp_core.specs.declared.expr.Expr.TheFolds.{the_lemmas}
 use Rattle.sp_core.specs.declared.function.Function.{Function}
 use Rattle.sp_core.specs.Tree.{Const, Look, Two, tree, trees_of}
+use Rattle.sp_core.proofs.TreeLemmas.{tree-Const, tree-Look}
 use Rattle.sp_core.specs.Values.{World, Reads, Store, look, nothing, reads_by, reads_under, value_of}
 use Rattle.sp_driver.specs.PlainForm.{IsStored, IsStoredAs, IsPlainTerm, constant_of, initial_of}
-
--- the trees of the forms of an expression
-pub tree-Const : (v : Value) → tree (expr.Const v) ≡ Const v
-tree-Const v = search (rules, the_lemmas)
-
-pub tree-Look : (g : ℕ) (ds : List Expr) → tree (expr.Look g ds) ≡ Look g (trees_of (map tree ds))
-tree-Look g ds = search (rules, the_lemmas)
-
-pub tree-Two : (o : Op) (a b : Expr) → tree (expr.Two o a b) ≡ Two o (tree a) (tree b)
-tree-Two o a b = search (rules, the_lemmas)
 
 -- a V-function of the state gives its entry, or its initial value
 look_stored : (w : World) (fs : List Function) (s : Store) (g : ℕ) (v : List Value) (f : Function) (x : Value) → IsStoredAs fs g f x → look w fs s g v ≡ unwrap_or (s g v) x

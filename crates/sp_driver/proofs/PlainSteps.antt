@@ -4,8 +4,9 @@ use Rattle.std.specs.Prelude.{if◌then◌else◌, slice_get, position}
 use Rattle.std.specs.List.{All, AllPairs, Contains}
 use Rattle.std.proofs.lemmas.List.{take_more}
 use Rattle.std.proofs.lemmas.Option.{slice_get_read}
-use Rattle.std.proofs.lemmas.List.Elements.{All-head, All-tail, All-nil}
+use Rattle.std.proofs.lemmas.List.Elements.{All-cons, All-head, All-tail, All-nil}
 use Rattle.sp_values.specs.declared.value.Value.{Value}
+use Rattle.sp_values.specs.declared.value.Op.TheVariants as op
 use Rattle.sp_values.specs.declared.value.Ty.{Ty}
 use Rattle.sp_values.specs.Arithmetic.{IsInteger}
 use Rattle.sp_values.specs.declared.place.Invocation.{Invocation}
@@ -17,14 +18,15 @@ use Rattle.sp_core.specs.declared.function.Answer.{Answer as AnAnswer}
 use Rattle.sp_core.specs.declared.function.Answer.TheVariants as answer
 use Rattle.sp_core.specs.declared.expr.Expr.{Expr}
 use Rattle.sp_core.specs.Effects.{Change, Answer, If, Every, EffectTree, GuardedChange, changes, changes_in, effect_tree, effect_trees, effect_trees_of}
-use Rattle.sp_core.specs.Machine.{AnswersBy, AnswersPlainly, AreBindings, Changes, IsTrueChange, Machine, Run, Step, given, target, value_at}
+use Rattle.sp_core.specs.Machine.{AreBindings, Changes, ChangesByRank, IsTrueChange, Machine, Outcome, Replies, Run, Step, first_exception, given, target, value_at}
 use Rattle.sp_core.specs.States.{put_at}
-use Rattle.sp_core.specs.Tree.{none, more, tree}
+use Rattle.sp_core.specs.Ranks.{change_reads, new_reads}
+use Rattle.sp_core.specs.Tree.{Tree, Const, Var, Not, Two, If as Choose, Param, Look, Every as Each, New, none, more, tree}
 use Rattle.sp_core.specs.Values.{Store, World, is_true, look, value_in}
-use Rattle.sp_core.proofs.Steps.{run_append}
+use Rattle.sp_core.proofs.Steps.{one_rank_made, run_append}
 use Rattle.sp_core.proofs.StateLemmas.{hit, hit-Decides}
 use Rattle.sp_core.proofs.Unique.{Contains-cons, Contains-first, Contains-later, Contains-nil}
-use Rattle.sp_driver.specs.PlainForm.{ArePlainChanges, ArePlainlyChanged, HoldsIntegers, IsPlainChange, IsPlainFunction, IsPlainKind, IsRunUntil, IsStored, plain_machine}
+use Rattle.sp_driver.specs.PlainForm.{ArePlainChanges, ArePlainlyChanged, HoldsIntegers, IsPlainChange, IsPlainFunction, IsPlainKind, IsPlainTerm, IsRunUntil, IsStored, plain_machine}
 use Rattle.sp_driver.specs.PlainWork.{new_value, target_of, tree_target, tree_value, written}
 
 -- the change of a plain effect
@@ -142,17 +144,57 @@ written_integers (g ∷ gs) (x ∷ xs) s all holds = written_integers gs xs (put
     by true y k p = let e : x ≡ y = cc in subst IsInteger e (All-head IsInteger x xs all)
     by false y k p = k p
 
+-- a plain change reads no new value
+term_reads_old : (fs : List Function) (e : Tree) → IsPlainTerm fs e → new_reads e ≡ []
+term_reads_old fs (Const v) h = refl
+term_reads_old fs (Var k) h = absurd h
+term_reads_old fs (Not a) h = absurd h
+term_reads_old fs (Two op.Add a b) h = λ i. term_reads_old fs a h.0 i ++ term_reads_old fs b h.1 i
+term_reads_old fs (Two o a b) h = absurd h
+term_reads_old fs (Choose c a b) h = absurd h
+term_reads_old fs (Param p ds) h = absurd h
+term_reads_old fs (Look g none) h = refl
+term_reads_old fs (Look g (more d ds)) h = absurd h
+term_reads_old fs (Each k t b) h = absurd h
+term_reads_old fs (New g ds) h = absurd h
+
+change_reads_old : (fs : List Function) (t : EffectTree) → IsPlainChange fs t → change_reads (simple t) ≡ []
+change_reads_old fs (Change g none x) h = term_reads_old fs x h.1
+change_reads_old fs (Change g (more d ds) x) h = absurd h
+change_reads_old fs (Answer x) h = absurd h
+change_reads_old fs (If c a b) h = absurd h
+change_reads_old fs (Every k t b) h = absurd h
+
+reads_old : (fs : List Function) (es : List Effect) → All (λ e. IsPlainChange fs (effect_tree e)) es → All (λ a. change_reads a ≡ []) (simple_changes es)
+reads_old fs [] h = All-nil (λ a. change_reads a ≡ [])
+reads_old fs (e ∷ es) h =
+    All-cons (λ a. change_reads a ≡ []) (simple (effect_tree e)) (simple_changes es)
+    (change_reads_old fs (effect_tree e) (All-head (λ e. IsPlainChange fs (effect_tree e)) e es h))
+    (reads_old fs es (All-tail (λ e. IsPlainChange fs (effect_tree e)) e es h))
+
+-- so all plain changes are of one rank
+changed_by_rank : (m : Machine) (s : Store) (i : Invocation) (es : List Effect) (t : Store) → ArePlainChanges m.functions es → Changes m s s i (changes_in (effect_trees_of (map effect_tree es))) t
+    → ChangesByRank m s i (changes_in (effect_trees_of (map effect_tree es))) t
+changed_by_rank m s i es t plain changed =
+    let p = plain_changes m.functions es plain.each in
+    (one_rank_made m s i (changes_in (effect_trees_of (map effect_tree es))) (subst (All (λ a. change_reads a ≡ [])) (sym p) (reads_old m.functions es plain.each)) t).1 changed
+
+-- without exceptions none is TRUE
+none_first : (m : Machine) (s : Store) (i : Invocation) (f : Function) → f.exceptions ≡ [] → first_exception m s i f ≡ None
+none_first m s i f free = ap (λ xs. position (λ e. is_true (value_at m s i.args (tree e.1))) xs) free
+
 -- an operation without exceptions steps to the state that its changes make, and answers Done
 pub step_done : (m : Machine) (s : Store) (i : Invocation) (f : Function) (es : List Effect) (t : Store) → slice_get m.functions i.fun ≡ Some f → f.exceptions ≡ [] → f.kind ≡ kind.Operation es
-    → Changes m s s i (changes_in (effect_trees_of (map effect_tree es))) t → Step m s i answer.Done t
-step_done m s i f es t there free is changed = (
+    → ArePlainChanges m.functions es → Changes m s s i (changes_in (effect_trees_of (map effect_tree es))) t → Step m s i answer.Done t
+step_done m s i f es t there free is plain changed = (
   f,
   record {
     function = there;
-    answers =
-        subst (λ (o : Option ℕ). AnswersBy m s i f o answer.Done) (ap (λ xs. position (λ e. is_true (value_at m s i.args (tree e.1))) xs) (sym free))
-        (subst (λ (k : Kind). AnswersPlainly m s i k answer.Done) (sym is) refl);
-    moves = subst (λ (k : Kind). Changes m s s i (changes_in (effect_trees k)) t) (sym is) changed;
+    outcome =
+        subst (λ (o : Option ℕ). Outcome m s i f o answer.Done t) (sym (none_first m s i f free)) (
+          subst (λ (k : Kind). ChangesByRank m s i (changes_in (effect_trees k)) t) (sym is) (changed_by_rank m s i es t plain changed),
+          subst (λ (k : Kind). Replies m s t i k answer.Done) (sym is) refl,
+        );
   },
 )
 
@@ -164,13 +206,11 @@ step_value m s i f ty e there free is =
       f,
       record {
         function = there;
-        answers =
-            subst (λ (o : Option ℕ). AnswersBy m s i f o a) (ap (λ xs. position (λ e. is_true (value_at m s i.args (tree e.1))) xs) (sym free))
-            (subst (λ (k : Kind). AnswersPlainly m s i k a) (sym is) refl);
-        moves = subst (λ (k : Kind). Changes m s s i (changes_in (effect_trees k)) s) (sym is) (record {
-          named = λ b cs c. absurd (Contains-nil b c.of);
-          others = λ g v n. refl;
-        });
+        outcome =
+            subst (λ (o : Option ℕ). Outcome m s i f o a s) (sym (none_first m s i f free)) (
+              subst (λ (k : Kind). ChangesByRank m s i (changes_in (effect_trees k)) s) (sym is) refl,
+              subst (λ (k : Kind). Replies m s s i k a) (sym is) refl,
+            );
       },
     )
 

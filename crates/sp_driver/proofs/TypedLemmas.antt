@@ -35,7 +35,7 @@ use Rattle.sp_driver.specs.PlainForm.{ArePlain, ArePlainChanges, IsPlainChange, 
 use Rattle.sp_driver.specs.SmallRun.{RunsThrough}
 use Rattle.sp_driver.specs.PlainWork.{tree_target}
 use Rattle.sp_driver.proofs.PlainSteps.{plain_changes, simple, simple_changes}
-use Rattle.sp_driver.proofs.PlainLemmas.{tree-Const, tree-Look, tree-Two}
+use Rattle.sp_core.proofs.TreeLemmas.{tree-Const, tree-Look, tree-Two}
 use Rattle.sp_driver.specs.SmallCore.{change_effect, function_of, functions_of, invocation_of, kind_of, literal_number, number_of, operand_expr, sum_expr, term_expr}
 use Rattle.sp_driver.specs.SmallRules.{AreSoundChanges, AreSoundFunctions, IsFunction, IsSoundChange, IsValueBody, IsValueFunction, changes_of, operand_reads, second_reads}
 

@@ -1,6 +1,7 @@
 -- The rules and limits that the small texts obey, as facts about their trees, for what a run of a script asks of them.
 use Rattle.std.specs.Prelude.{◌≡◌, ◌≢◌, ◌≤◌, ℕ, List, [], ◌∷◌, ◌++◌, length, Option, Some, None}
 use Rattle.std.specs.List.{All, Any, AllPairs}
+use Rattle.sp_text.specs.declared.limits.TheConstants.{MOST_CHANGES, MOST_FUNCTIONS, MOST_INVOCATIONS}
 use Rattle.sp_driver.specs.declared.small.texts.SmallInterface.{SmallInterface}
 use Rattle.sp_driver.specs.declared.small.texts.SmallEquation.{SmallEquation}
 use Rattle.sp_driver.specs.declared.small.texts.SmallModule.{SmallModule}
@@ -13,16 +14,6 @@ use Rattle.sp_driver.specs.declared.small.texts.SmallOperand.{SmallOperand}
 use Rattle.sp_driver.specs.declared.small.texts.SmallOperand.TheVariants as operand
 use Rattle.sp_driver.specs.declared.small.texts.SmallInstance.{SmallInstance}
 use Rattle.sp_driver.specs.declared.small.texts.SmallScript.{SmallScript}
-
--- the greatest numbers of functions of a module, of changes of a function, and of invocations of a script
-abbrev pub most_functions : ℕ
-most_functions = 512
-
-abbrev pub most_changes : ℕ
-most_changes = 64
-
-abbrev pub most_invocations : ℕ
-most_invocations = 10000
 
 -- a function has the name
 unfoldable pub IsFunction : List SmallFunction → List ℕ → Type 0
@@ -60,13 +51,13 @@ pub record IsSoundChange (functions : List SmallFunction) (c : SmallChange) : Ty
 
 -- the changes of a function are few, of different value functions, and sound
 pub record AreSoundChanges (functions : List SmallFunction) (changes : List SmallChange) : Type 0 where
-  pub few : length changes ≤ most_changes
+  pub few : length changes ≤ MOST_CHANGES
   pub apart : AllPairs (λ c d. c.target ≢ d.target) changes
   pub sound : All (IsSoundChange functions) changes
 
 -- the functions of a module are few, with different names, and their changes are sound
 pub record AreSoundFunctions (functions : List SmallFunction) : Type 0 where
-  pub few : length functions ≤ most_functions
+  pub few : length functions ≤ MOST_FUNCTIONS
   pub apart : AllPairs (λ f g. f.name ≢ g.name) functions
   pub changes : All (λ f. AreSoundChanges functions (changes_of f.body)) functions
 
@@ -92,5 +83,5 @@ pub record IsSoundInterface (i : SmallInterface) (m : SmallModule) (s : SmallIns
 
 -- a script of few invocations, each of a function
 pub record IsSoundScript (m : SmallModule) (s : SmallScript) : Type 0 where
-  pub few : length s.calls ≤ most_invocations
+  pub few : length s.calls ≤ MOST_INVOCATIONS
   pub functions : All (IsFunction m.functions) s.calls

@@ -2,6 +2,7 @@
 -- work goes on with. For what a report is.
 use Rattle.std.specs.Prelude.{◌≡◌, ◌⊎◌, ℕ, ◌<◌, ◌≤◌, List, Some, None, length}
 use Rattle.sp_outside.specs.Files.{Files, first_file}
+use Rattle.sp_text.specs.declared.limits.TheConstants.{MOST_FILE_BYTES}
 use Rattle.sp_driver.specs.Lines.{missing_line, too_long_line}
 use Rattle.sp_driver.specs.declared.status.Status.{Status}
 use Rattle.sp_driver.specs.declared.status.Status.TheVariants as status
@@ -20,7 +21,7 @@ Demand rule refused next bytes got = (¬ rule × refused bytes got) ⊎ (rule ×
 
 -- the greatest number of bytes of a text
 abbrev pub most_bytes : ℕ
-most_bytes = 1048576
+most_bytes = MOST_FILE_BYTES
 
 -- no file has the name
 abbrev pub IsMissing : List ℕ → Files → Type 0

@@ -21,6 +21,3 @@ pub use report::{Early, Report, Stop};
 pub use status::Status;
 pub use top_call::run;
 pub use words::{Command, read_words};
-
-#[cfg(test)]
-mod tests;

@@ -7,11 +7,10 @@ use crate::lines::{missing_text, too_long_text};
 use crate::report::{Early, Report, Stop};
 use crate::status::Status;
 use sp_outside::{Library, LoadFault};
+use sp_text::MOST_FILE_BYTES;
 use std::alloc::Global;
 
-const MOST_BYTES: u64 = 1_048_576;
-
-/// The text of a file, of at most 1,048,576 bytes.
+/// The text of a file, of at most `MOST_FILE_BYTES` bytes.
 ///
 /// # Errors
 /// The report of a missing or too long file; or a failed read, or `Memory`.
@@ -25,7 +24,7 @@ pub fn load_text<L: Library>(alloc: Global, lib: &mut L, name: &str) -> Result<V
     ensures later { L.faults lib.old ≤ L.faults lib.new }
 {
     let mut text = Vec::new(alloc);
-    match lib.load(name, MOST_BYTES, &mut text) {
+    match lib.load(name, u64::from(MOST_FILE_BYTES), &mut text) {
         Ok(()) => Ok(text),
         Err(LoadFault::Missing) => Err(Early::Refused(Report {
             bytes: missing_text(alloc, name)?,

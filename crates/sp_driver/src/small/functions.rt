@@ -1,6 +1,6 @@
 ghost use Rattle.std.specs.Prelude.{◌≡◌, ◌≤◌, length, map, position, IfOk};
 ghost use Rattle.std.specs.Str.{bytes_eq};
-ghost use Rattle.sp_driver.specs.SmallRules.{most_functions};
+ghost use Rattle.sp_text.specs.declared.limits.TheConstants.{MOST_FUNCTIONS};
 ghost use Rattle.sp_driver.specs.SmallCore.{number_of, literal_number, operand_expr, sum_expr, term_expr, change_effect, kind_of, function_of, functions_of};
 
 use crate::small::texts::{
@@ -16,7 +16,7 @@ use std::alloc::Global;
 /// The number of the function of that name, and 0 where there is none.
 #[tactic(auto, unfolding(crate::specs::SmallCore::number_of))]
 pub fn number(functions: &[SmallFunction], name: &Name) -> u16
-    requires { length functions.now ≤ most_functions }
+    requires { length functions.now ≤ MOST_FUNCTIONS }
     ensures { result ≡ number_of functions.now name.now }
 {
     match index_of(functions, name) {
@@ -43,7 +43,7 @@ fn literal(source: SmallLiteral) -> i64
 }
 
 fn operand(alloc: Global, functions: &[SmallFunction], source: &SmallOperand) -> Expr
-    requires { length functions.now ≤ most_functions }
+    requires { length functions.now ≤ MOST_FUNCTIONS }
     ensures { result ≡ operand_expr functions.now source.now }
 {
     match source {
@@ -53,7 +53,7 @@ fn operand(alloc: Global, functions: &[SmallFunction], source: &SmallOperand) ->
 }
 
 fn term(alloc: Global, functions: &[SmallFunction], source: &SmallTerm) -> Result<Expr, Memory>
-    requires { length functions.now ≤ most_functions }
+    requires { length functions.now ≤ MOST_FUNCTIONS }
     ensures { IfOk result (λ e. e ≡ term_expr functions.now source.now) }
 {
     let first = operand(alloc, functions, &source.first);
@@ -72,7 +72,7 @@ fn effects(
     functions: &[SmallFunction],
     changes: &[SmallChange],
 ) -> Result<Items<Effect>, Memory>
-    requires { length functions.now ≤ most_functions }
+    requires { length functions.now ≤ MOST_FUNCTIONS }
     ensures { IfOk result (λ all. all ≡ map (change_effect functions.now) changes.now) }
 {
     let mut all = Items::new(alloc);
@@ -85,7 +85,7 @@ fn effects(
 }
 
 fn kind(alloc: Global, functions: &[SmallFunction], body: &SmallBody) -> Result<Kind, Memory>
-    requires { length functions.now ≤ most_functions }
+    requires { length functions.now ≤ MOST_FUNCTIONS }
     ensures { IfOk result (λ k. k ≡ kind_of functions.now body.now) }
 {
     match body {
@@ -106,7 +106,7 @@ fn function(
     functions: &[SmallFunction],
     source: &SmallFunction,
 ) -> Result<Function, Memory>
-    requires { length functions.now ≤ most_functions }
+    requires { length functions.now ≤ MOST_FUNCTIONS }
     ensures { IfOk result (λ f. f ≡ function_of functions.now source.now) }
 {
     Ok(Function {
@@ -124,7 +124,7 @@ fn function(
 /// # Errors
 /// `Memory` where they can't be made.
 pub fn typed(alloc: Global, functions: &[SmallFunction]) -> Result<Vec<Function>, Memory>
-    requires { length functions.now ≤ most_functions }
+    requires { length functions.now ≤ MOST_FUNCTIONS }
     ensures { IfOk result (λ all. all.items ≡ functions_of functions.now) }
 {
     let mut all = Vec::new(alloc);

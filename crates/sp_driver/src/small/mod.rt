@@ -22,6 +22,3 @@ pub use module::read_module;
 pub use perform::run_script;
 pub use rules::{is_sound_interface, is_sound_script};
 pub use script::read_script;
-
-#[cfg(test)]
-mod tests;

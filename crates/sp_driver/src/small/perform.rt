@@ -1,7 +1,8 @@
 ghost use Rattle.std.specs.Prelude.{◌≡◌, ◌≤◌, length, map, IfOk};
 ghost use Rattle.std.specs.List.{All};
 ghost use Rattle.sp_driver.specs.SmallCore.{invocation_of};
-ghost use Rattle.sp_driver.specs.SmallRules.{AreSoundFunctions, IsFunction, IsSoundScript, most_functions, most_invocations};
+ghost use Rattle.sp_driver.specs.SmallRules.{AreSoundFunctions, IsFunction, IsSoundScript};
+ghost use Rattle.sp_text.specs.declared.limits.TheConstants.{MOST_FUNCTIONS, MOST_INVOCATIONS};
 ghost use Rattle.sp_driver.specs.SmallRun.{IsPrintedRun, RunsThrough};
 
 use crate::small::animate::animate;
@@ -19,7 +20,7 @@ fn invocations(
     functions: &[SmallFunction],
     calls: &[Name],
 ) -> Result<Vec<Invocation>, Memory>
-    requires { length functions.now ≤ most_functions }
+    requires { length functions.now ≤ MOST_FUNCTIONS }
     ensures { IfOk result (λ all. all.items ≡ map (invocation_of functions.now) calls.now) }
 {
     let mut all = Vec::new(alloc);
@@ -39,7 +40,7 @@ fn answers(
     calls: &[Name],
 ) -> Result<Vec<Answer>, Memory>
     requires functions { AreSoundFunctions functions.now }
-    requires few { length calls.now ≤ most_invocations }
+    requires few { length calls.now ≤ MOST_INVOCATIONS }
     requires calls { All (IsFunction functions.now) calls.now }
     ensures run { IfOk result (λ answers. RunsThrough functions.now calls.now answers.items) }
     ensures count { IfOk result (λ answers. length answers.items ≡ length calls.now) }

@@ -6,16 +6,7 @@ use crate::small::texts::{
     SmallBody, SmallChange, SmallEquation, SmallFunction, SmallInstance, SmallInterface,
     SmallModule, SmallOperand, SmallScript, SmallTerm,
 };
-use sp_text::Name;
-
-/// The most functions of a module.
-const MOST_FUNCTIONS: usize = 512;
-
-/// The most changes of a function.
-const MOST_CHANGES: usize = 64;
-
-/// The most invocations of a script.
-const MOST_INVOCATIONS: usize = 10000;
+use sp_text::{MOST_CHANGES, MOST_FUNCTIONS, MOST_INVOCATIONS, Name};
 
 fn is_value(body: &SmallBody) -> bool
     ensures { IsTrue result ↔ IsValueBody body.now }
@@ -88,7 +79,9 @@ fn is_each_sound(functions: &[SmallFunction], changes: &[SmallChange]) -> bool
 fn are_sound_changes(functions: &[SmallFunction], changes: &[SmallChange]) -> bool
     ensures { IsTrue result ↔ AreSoundChanges functions.now changes.now }
 {
-    changes.len() <= MOST_CHANGES && are_apart(changes) && is_each_sound(functions, changes)
+    changes.len() <= MOST_CHANGES as usize
+        && are_apart(changes)
+        && is_each_sound(functions, changes)
 }
 
 fn changes_in(body: &SmallBody) -> &[SmallChange]
@@ -109,7 +102,9 @@ fn are_all_changes_sound(functions: &[SmallFunction]) -> bool
 fn are_sound_functions(functions: &[SmallFunction]) -> bool
     ensures { IsTrue result ↔ AreSoundFunctions functions.now }
 {
-    functions.len() <= MOST_FUNCTIONS && are_apart(functions) && are_all_changes_sound(functions)
+    functions.len() <= MOST_FUNCTIONS as usize
+        && are_apart(functions)
+        && are_all_changes_sound(functions)
 }
 
 fn are_at_level(equations: &[SmallEquation], level: &Name) -> bool
@@ -174,5 +169,5 @@ pub fn is_sound_script(part: &SmallModule, script: &SmallScript) -> bool
 {
     let functions = part.functions.items();
     let calls = script.calls.items();
-    calls.len() <= MOST_INVOCATIONS && are_functions(functions, calls)
+    calls.len() <= MOST_INVOCATIONS as usize && are_functions(functions, calls)
 }

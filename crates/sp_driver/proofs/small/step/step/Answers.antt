@@ -6,7 +6,7 @@ use Rattle.sp_core.specs.Machine.{Step}
 use Rattle.sp_core.specs.States.{entry_of}
 use Rattle.sp_core.specs.Values.{look}
 use Rattle.sp_driver.specs.PlainForm.{ArePlainlyChanged, plain_machine}
-use Rattle.sp_driver.proofs.PlainSteps.{step_done, step_value, stored_at, there_at}
+use Rattle.sp_driver.proofs.PlainSteps.{plain_at, step_done, step_value, stored_at, there_at}
 use Rattle.sp_driver.proofs.small.step.step.Goals as goal
 
 pub look_at-requires-clause-stored : goal.look_at-requires-clause-stored
@@ -38,4 +38,4 @@ returns-in_ok-change-in-Operation-clause-step c = λ w.
     let t = entry_of c.change.new.state.entries in
     let changed : ArePlainlyChanged fs c.in-Operation.effects s t = subst (λ (es : List Effect). ArePlainlyChanged fs es s t) c.as_slice.ensures c.in_ok-change-in-Operation.ensures.changed in
     step_done (plain_machine w fs) s i (get_or fs i.fun f) c.in-Operation.effects t (there_at fs i.fun f c.requires.invocation.function c.index-functions-i.is)
-    (c.requires.plain i.fun f c.requires.invocation.function).exceptions c.in-Operation.is (changed w i c.requires.invocation.arguments)
+    (c.requires.plain i.fun f c.requires.invocation.function).exceptions c.in-Operation.is (plain_at fs (get_or fs i.fun f) c.in-Operation.effects (c.requires.plain i.fun f c.requires.invocation.function) c.in-Operation.is) (changed w i c.requires.invocation.arguments)

@@ -1,4 +1,4 @@
-use super::{Status, run};
+use sp_driver::{Status, run};
 use sp_outside::{MemoryLibrary, MemorySink};
 use sp_text::{Memory, push_text};
 use std::alloc::Global;

@@ -1,0 +1,6 @@
+//! Tests of the top call over a library and a sink in memory, in a crate of their own so that `sp_driver` isn't proved again
+//! with them.
+#![tactic(auto)]
+
+#[cfg(test)]
+mod tests;

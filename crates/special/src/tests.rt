@@ -107,6 +107,9 @@ fn a_script_runs_over_files(rt: HostRuntime) -> Result<(), Fail> {
     let mut room = [0u8; REPORT.len()];
     let mut out = OutSink::new(room.as_mut_slice());
     let status = run(alloc, &words, &mut FolderLibrary::new(&rt), &mut out);
+    for (name, _) in SWAP {
+        fs::remove_file(&rt, name)?;
+    }
     assert_eq!(rt; status, Status::Ok);
     assert_eq!(rt; room.as_slice(), REPORT);
     Ok(())

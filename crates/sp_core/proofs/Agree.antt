@@ -91,13 +91,20 @@ mutual
 pub value_agrees : (w : World) (r new s ns : Reads) (OK : ℕ → Type 0) → ((g : ℕ) (v : List Value) → OK g → r g v ≡ s g v) → (e : Tree) (x : List Value) → LooksAt OK Nothing e → value_of w r new x e ≡ value_of w s ns x e
 value_agrees w r new s ns OK agree e x ok = value_same w r new s ns OK Nothing (λ g v. Unit {0}) (λ g v o u. agree g v o) (λ g v o u. absurd o) e x ok (all_below w r new e x)
 
+-- over new states that agree wherever it reads new values, an expression has one value
+module _ (w : World) (r new other : Reads) (NewOK : ℕ → Type 0) (agree : (g : ℕ) (v : List Value) → NewOK g → new g v ≡ other g v) where
+  pub value_agrees_new : (e : Tree) (x : List Value) → LooksAt Anything NewOK e → value_of w r new x e ≡ value_of w r other x e
+  value_agrees_new e x ok = value_same w r new r other Anything NewOK (λ g v. Unit {0}) (λ g v o u. refl) (λ g v o u. agree g v o) e x ok (all_below w r new e x)
+
+  pub values_agree_new : (ds : Trees) (x : List Value) → LookAt Anything NewOK ds → values_of w r new x ds ≡ values_of w r other x ds
+  values_agree_new ds x ok = values_same w r new r other Anything NewOK (λ g v. Unit {0}) (λ g v o u. refl) (λ g v o u. agree g v o) ds x ok (all_belows w r new ds x)
+
 -- an expression that reads no new value has one value over whatever new state
 pub value_no_new : (w : World) (r new other : Reads) (e : Tree) (x : List Value) → LooksAt Anything Nothing e → value_of w r new x e ≡ value_of w r other x e
-value_no_new w r new other e x ok = value_agrees w r new r other Anything (λ g v o. refl) e x ok
+value_no_new w r new other e x ok = value_agrees_new w r new other Nothing (λ g v o. absurd o) e x ok
 
 pub values_no_new : (w : World) (r new other : Reads) (ds : Trees) (x : List Value) → LookAt Anything Nothing ds → values_of w r new x ds ≡ values_of w r other x ds
-values_no_new w r new other none x ok = refl
-values_no_new w r new other (more d ds) x ok = λ i. value_no_new w r new other d x ok.0 i ∷ values_no_new w r new other ds x ok.1 i
+values_no_new w r new other ds x ok = values_agree_new w r new other Nothing (λ g v o. absurd o) ds x ok
 
 -- every expression looks at functions
 mutual

@@ -8,6 +8,7 @@ use Rattle.std.proofs.lemmas.List.Elements.{All-cons, All-nil, All-append, All-m
 use Rattle.sp_values.specs.declared.value.Value.{Value}
 use Rattle.sp_values.specs.declared.value.Ty.{Ty}
 use Rattle.sp_values.specs.declared.value.Ty.TheVariants as ty
+use Rattle.sp_core.specs.declared.expr.Expr.{Expr}
 use Rattle.sp_core.specs.declared.function.Function.{Function}
 use Rattle.sp_core.specs.declared.function.Kind.{Kind}
 use Rattle.sp_core.specs.declared.function.Kind.TheVariants as kind
@@ -28,6 +29,13 @@ append_assoc (x ∷ xs) u vs = ap (λ ys. x ∷ ys) (append_assoc xs u vs)
 pub append_nothing : (xs : List Ty) → xs ≡ xs ++ []
 append_nothing [] = refl
 append_nothing (x ∷ xs) = ap (λ ys. x ∷ ys) (append_nothing xs)
+
+-- a primitive function's kind
+pub initial_of : (k : Kind) (t : Ty) → primitive_type k ≡ Some t → (e : Expr) × (k ≡ kind.Primitive t e)
+initial_of (kind.Primitive u e) t h = let q : u ≡ t = cc in (e, ap (λ v. kind.Primitive v e) q)
+initial_of (kind.Derived u e) t h = cc
+initial_of (kind.Operation es) t h = cc
+initial_of (kind.Both u es) t h = cc
 
 -- Changes
 

@@ -2,8 +2,10 @@
 use Rattle.std.proofs.Common.{◌≡◌, sym, ◌∙◌, ap, subst, ℕ, ◌<◌, true, List, Some}
 use Rattle.std.specs.Prelude.{slice_get, unwrap_or}
 use Rattle.sp_values.specs.declared.value.Value.{Value}
+use Rattle.sp_values.specs.declared.value.Ty.{Ty}
 use Rattle.sp_values.specs.declared.value.Ty.TheVariants as ty
 use Rattle.sp_values.specs.Domains.{are_values, is_value}
+use Rattle.sp_core.specs.declared.expr.Expr.{Expr}
 use Rattle.sp_core.specs.declared.function.Function.{Function}
 use Rattle.sp_core.specs.declared.function.Kind.{Kind}
 use Rattle.sp_core.specs.declared.function.Kind.TheVariants as kind
@@ -30,12 +32,17 @@ module _ (p : Parts) (i : Filling) (wf : IsWellFormed p) where
       subst (λ k. look (world_of p i) p.functions u g v ≡ reads_by (world_of p i) u (look (world_of p i) p.functions u) (Some (record f { kind = k })) g v) e
       (look_is (world_of p i) p.functions (ordered_functions p wf) u g v ∙ ap (λ o. reads_by (world_of p i) u (look (world_of p i) p.functions u) o g v) there)
 
+  -- a primitive function gives the same where its entry is the same
+  pub same_primitive : (s t : Store) (g : ℕ) (v : List Value) (f : Function) (u : Ty) (init : Expr) → slice_get p.functions g ≡ Some f → f.kind ≡ kind.Primitive u init → t g v ≡ s g v
+      → look (world_of p i) p.functions s g v ≡ look (world_of p i) p.functions t g v
+  same_primitive s t g v f u init there primitive e =
+      gives s g f v there (kind.Primitive u init) primitive
+      ∙ ap (λ o. unwrap_or o (value_of (world_of p i) nothing nothing v (tree init))) (sym e)
+      ∙ sym (gives t g f v there (kind.Primitive u init) primitive)
+
   -- a place looks the same where its entry is the same
   pub same_entry : (s t : Store) (g : ℕ) (v : List Value) → IsPlace (machine_of p i) g v → t g v ≡ s g v → look (world_of p i) p.functions s g v ≡ look (world_of p i) p.functions t g v
-  same_entry s t g v h e =
-      gives s g h.0 v h.3.function (kind.Primitive h.1 h.2) h.3.primitive
-      ∙ ap (λ o. unwrap_or o (value_of (world_of p i) nothing nothing v (tree h.2))) (sym e)
-      ∙ sym (gives t g h.0 v h.3.function (kind.Primitive h.1 h.2) h.3.primitive)
+  same_entry s t g v h e = same_primitive s t g v h.0 h.1 h.2 h.3.function h.3.primitive e
 
   -- the level of a function at values of its formals' types is a level
   pub level_is : IsInstance p i → (g : ℕ) (f : Function) (v : List Value) → slice_get p.functions g ≡ Some f → are_values (sizes_of p i) (types_of f.formals) v ≡ true → level_of (machine_of p i) g v < p.lattice.count

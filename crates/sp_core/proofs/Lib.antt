@@ -11,6 +11,7 @@ pub mod Levels
 pub mod RankLemmas
 pub mod Unique
 pub mod OneResult
+pub mod NewStates
 pub mod StatesTyped
 pub mod Steps
 pub mod Lists

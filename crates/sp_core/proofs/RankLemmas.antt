@@ -1,5 +1,5 @@
 -- Ranks of changed functions: a function's rank is the length of the longest chain that ends at it, and there are few.
-use Rattle.std.proofs.Common.{◌≡◌, refl, sym, ◌∙◌, ap, subst, arith, ℕ, zero, suc, ◌<◌, ◌≤◌, Bool, true, false, ◌==◌, cond, max, List, [], ◌∷◌, ◌++◌, length, map, nat_lt, ◌⊎◌, inl, inr}
+use Rattle.std.proofs.Common.{◌≡◌, refl, sym, ◌∙◌, ap, subst, arith, ℕ, zero, suc, ◌+◌, ◌<◌, ◌≤◌, Bool, true, false, ◌==◌, cond, max, List, [], ◌∷◌, ◌++◌, length, map, nat_lt, ◌⊎◌, inl, inr}
 use Rattle.std.specs.Prelude.{if◌then◌else◌}
 use Rattle.std.specs.Bool.{one_answer}
 use Rattle.std.specs.Cmp.{IsEquivalence}
@@ -7,7 +7,7 @@ use Rattle.std.specs.List.{All, AllByRecursion, Contains, IsDistinct, filter}
 use Rattle.std.specs.Set.{distinct_count, is_member, unique_keys}
 use Rattle.std.proofs.lemmas.Bool.Decides.{Decides-eqb, Decides-ltb}
 use Rattle.std.proofs.lemmas.List.{length-map}
-use Rattle.std.proofs.lemmas.List.Elements.{All-head, All-tail, Contains-append_left, Contains-append_right, Contains-append_cases}
+use Rattle.std.proofs.lemmas.List.Elements.{All-contains, All-head, All-tail, filter_passes, Contains-append_left, Contains-append_right, Contains-append_cases}
 use Rattle.std.proofs.lemmas.Map.Made.{distinct_count-le, is_member-Decides, length-le_from_is_member}
 use Rattle.sp_core.specs.Effects.{GuardedChange}
 use Rattle.sp_core.specs.Measures.{Anything, LookAt, LooksAt, Nothing}
@@ -164,6 +164,13 @@ module _ (as' : List GuardedChange) where
     pub few_ranks : (g : ℕ) → change_rank as' g ≤ changed_functions as'
     few_ranks g = short (change_rank as' g) g (is_rank g).chain
 
+    -- what is before a function has a lower rank
+    pub lower_rank : (h g : ℕ) → IsBefore as' h g → change_rank as' h < change_rank as' g
+    lower_rank h g b =
+        let c = (is_rank h).chain in
+        let l = (is_rank g).longest (suc (change_rank as' h)) (c.0, (h, c.1, b)) in
+        omega (arith, l)
+
     -- Where each function that is read new is changed
 
     module _ (reads_changed : (g h : ℕ) → IsBefore as' h g → Contains (map (λ a. a.fun) as') h) where
@@ -204,6 +211,15 @@ module _ (as' : List GuardedChange) where
               let own = length-whole n h a.fun c in
               omega (arith, many, own)
 
+  -- there is no cycle where numbers rise along the order
+  module _ (number : ℕ → ℕ) (rises : (h g : ℕ) → IsBefore as' h g → number h < number g) where
+    risen : (n h g : ℕ) → Leads as' n h g → number h + n ≤ number g
+    risen zero h g c = let same : number h ≡ number g = ap number c in omega (arith, same)
+    risen (suc n) h g (k, c, b) = let before = risen n h k c in let last = rises k g b in omega (arith, before, last)
+
+    pub no_cycle_by : HasNoCycle as'
+    no_cycle_by n g c = let more = risen (suc n) g g c in absurd (omega (arith, more))
+
   -- the rank of a change is one of the ranks
   pub rank_within : (a : GuardedChange) → Contains as' a → change_rank as' a.fun < rank_count as'
   rank_within a of = let n = greatest_over (λ g. suc (change_rank as' g)) (changed as') a.fun (Contains-map (λ a. a.fun) as' a of) in omega (arith, n)
@@ -223,7 +239,54 @@ module _ (as' : List GuardedChange) where
           ]
           by false c ih = Contains-later b bs a (ih c)
 
--- No new values
+  -- and has that rank
+  pub has_rank : (k : ℕ) (a : GuardedChange) → Contains (of_rank as' k) a → change_rank as' a.fun ≡ k
+  has_rank k a c = (Decides-eqb (change_rank as' a.fun) k).0 (All-contains (λ a. (change_rank as' a.fun == k) ≡ true) (of_rank as' k) a (filter_passes (λ a. change_rank as' a.fun == k) as') c)
+
+  pub in_rank : (a : GuardedChange) → Contains as' a → Contains (of_rank as' (change_rank as' a.fun)) a
+  in_rank a = within as' ((Decides-eqb (change_rank as' a.fun) (change_rank as' a.fun)).1 refl)
+    where
+      test : GuardedChange → Bool
+      test b = change_rank as' b.fun == change_rank as' a.fun
+
+      within : (bs : List GuardedChange) → (change_rank as' a.fun == change_rank as' a.fun) ≡ true → Contains bs a → Contains (filter (λ b. change_rank as' b.fun == change_rank as' a.fun) bs) a
+      within [] own c = c
+      within (b ∷ bs) own c = by (change_rank as' b.fun == change_rank as' a.fun) refl (within bs own)
+        where
+          by : (q : Bool) → (change_rank as' b.fun == change_rank as' a.fun) ≡ q → (Contains bs a → Contains (filter (λ b. change_rank as' b.fun == change_rank as' a.fun) bs) a)
+              → Contains (if q then b ∷ filter (λ b. change_rank as' b.fun == change_rank as' a.fun) bs else filter (λ b. change_rank as' b.fun == change_rank as' a.fun) bs) a
+          by true e ih = elim (Contains-cons b bs a c) [
+            | inl same ↦ subst (Contains (b ∷ filter (λ b. change_rank as' b.fun == change_rank as' a.fun) bs)) same (Contains-first b (filter (λ b. change_rank as' b.fun == change_rank as' a.fun) bs))
+            | inr k ↦ Contains-later b (filter (λ b. change_rank as' b.fun == change_rank as' a.fun) bs) a (ih k)
+          ]
+          by false e ih = elim (Contains-cons b bs a c) [
+            | inl same ↦ let no : true ≡ false = sym own ∙ ap (λ (x : GuardedChange). change_rank as' x.fun == change_rank as' a.fun) (sym same) ∙ e in cc
+            | inr k ↦ ih k
+          ]
+
+-- What an expression reads new
+
+-- each function whose new value it reads is among those
+mutual
+  pub reads_among : (N : ℕ → Type 0) (e : Tree) → ((h : ℕ) → Contains (new_reads e) h → N h) → LooksAt Anything N e
+  reads_among N (Const v) h = tt
+  reads_among N (Var k) h = tt
+  reads_among N (Not a) h = reads_among N a h
+  reads_among N (Two o a b) h = (reads_among N a (λ g c. h g (Contains-append_left (new_reads a) (new_reads b) g c)), reads_among N b (λ g c. h g (Contains-append_right (new_reads a) (new_reads b) g c)))
+  reads_among N (If c a b) h =
+      let rest = new_reads a ++ new_reads b in (
+        reads_among N c (λ g k. h g (Contains-append_left (new_reads c) rest g k)),
+        reads_among N a (λ g k. h g (Contains-append_right (new_reads c) rest g (Contains-append_left (new_reads a) (new_reads b) g k))),
+        reads_among N b (λ g k. h g (Contains-append_right (new_reads c) rest g (Contains-append_right (new_reads a) (new_reads b) g k))),
+      )
+  reads_among N (Param p ds) h = all_among N ds h
+  reads_among N (Look g ds) h = (tt, all_among N ds h)
+  reads_among N (Every k t b) h = reads_among N b h
+  reads_among N (New g ds) h = (h g (Contains-append_right (new_reads_in ds) (g ∷ []) g (Contains-first g [])), all_among N ds (λ k c. h k (Contains-append_left (new_reads_in ds) (g ∷ []) k c)))
+
+  pub all_among : (N : ℕ → Type 0) (ds : Trees) → ((h : ℕ) → Contains (new_reads_in ds) h → N h) → LookAt Anything N ds
+  all_among N none h = tt
+  all_among N (more d ds) h = (reads_among N d (λ g c. h g (Contains-append_left (new_reads d) (new_reads_in ds) g c)), all_among N ds (λ g c. h g (Contains-append_right (new_reads d) (new_reads_in ds) g c)))
 
 -- an expression that looks at no new value has no function among those that it reads new, and the other way round
 mutual
@@ -252,6 +315,10 @@ module _ (as' : List GuardedChange) where
       by false rest = rest
 
   module _ (no_new : All (λ a. change_reads a ≡ []) as') where
+    -- there is no cycle
+    pub no_new_no_cycle : HasNoCycle as'
+    no_new_no_cycle n g (k, c, (a, b)) = absurd (Contains-nil k (subst (λ hs. Contains hs k) (All-contains (λ a. change_reads a ≡ []) as' a no_new b.of) b.reads))
+
     longest_none : (n g : ℕ) → longest_within as' n g ≡ 0
     longest_none zero g = refl
     longest_none (suc n) g = ap (greatest (λ h. suc (longest_within as' n h))) (none_before as' no_new g)

@@ -24,18 +24,11 @@ use Rattle.sp_core.specs.Typing.{answer_type, primitive_type, read_type}
 use Rattle.sp_core.specs.Values.{Store, look, value_over}
 use Rattle.sp_core.specs.WellFormed.{IsKind, IsWellFormed}
 use Rattle.sp_core.proofs.Bindings.{are_values-append, arguments_typed, bindings_typed}
-use Rattle.sp_core.proofs.EffectsTyped.{IsTypedChange, change_typed, result_typed}
+use Rattle.sp_core.proofs.EffectsTyped.{IsTypedChange, change_typed, initial_of, result_typed}
 use Rattle.sp_core.proofs.Elements.{slice_contains}
 use Rattle.sp_core.proofs.RankLemmas.{among_rank}
 use Rattle.sp_core.proofs.Types.{all_typed, look_typed, typed}
 use Rattle.sp_core.proofs.Unique.{hit}
-
--- a primitive function's kind
-pub initial_of : (k : Kind) (t : Ty) → primitive_type k ≡ Some t → (e : Expr) × (k ≡ kind.Primitive t e)
-initial_of (kind.Primitive u e) t h = let q : u ≡ t = cc in (e, ap (λ v. kind.Primitive v e) q)
-initial_of (kind.Derived u e) t h = cc
-initial_of (kind.Operation es) t h = cc
-initial_of (kind.Both u es) t h = cc
 
 -- putting a value of its type at a place keeps a state
 pub put_typed : (m : Machine) (s : Store) (g : ℕ) (v : List Value) (x : Value) → IsState m s → IsEntry m g v x → IsState m (put_at g v x s)

@@ -11,7 +11,7 @@ use Rattle.sp_core.specs.declared.function.Answer.TheVariants as answer
 use Rattle.sp_core.specs.declared.function.Function.{Function}
 use Rattle.sp_core.specs.Effects.{EffectTrees, GuardedChange, changes_in, effect_trees, results_in}
 use Rattle.sp_core.specs.Instances.{Filling, IsInstance, machine_of, sizes_of, world_of}
-use Rattle.sp_core.specs.Machine.{AreBindings, Changes, ChangesByRank, IsEntry, IsInvocation, IsInvocationOf, IsResult, IsState, Machine, MeetsConflict, Run, Step, given, level_of, target, types_of}
+use Rattle.sp_core.specs.Machine.{AreBindings, Changes, ChangesByRank, IsEntry, IsInvocation, IsInvocationOf, IsNewState, IsResult, IsState, Machine, MeetsConflict, Run, Step, given, level_of, target, types_of}
 use Rattle.sp_core.specs.Measures.{Anything, HaveResults, LooksAt, Nothing}
 use Rattle.sp_core.specs.Parts.{Parts, signature}
 use Rattle.sp_core.specs.Ranks.{HasNoCycle, IsBefore, IsRank, change_rank, change_reads, changed_functions}
@@ -42,8 +42,8 @@ FrontLaw = (w : World) (old new : Reads) (sg : Signature) (xs : List Ty) (x behi
     value_of w old new (x ++ behind) e ≡ value_of w old new x e
 
 -- an expression that reads no new value has one value over whatever new state
-abbrev pub OldLaw : Type 0
-OldLaw = (w : World) (old new other : Reads) (x : List Value) (e : Tree) → LooksAt Anything Nothing e → value_of w old new x e ≡ value_of w old other x e
+abbrev pub OldValueLaw : Type 0
+OldValueLaw = (w : World) (old new other : Reads) (x : List Value) (e : Tree) → LooksAt Anything Nothing e → value_of w old new x e ≡ value_of w old other x e
 
 -- an expression that depends on places at or below a level alone has one value over pairs of states that are alike there
 abbrev pub AlikeLaw : Type 0
@@ -113,10 +113,16 @@ RankLaw = (as' : List GuardedChange) → HasNoCycle as' → (g : ℕ) → IsRank
 abbrev pub FewRanksLaw : Type 0
 FewRanksLaw = (as' : List GuardedChange) → HasNoCycle as' → (g : ℕ) → change_rank as' g ≤ changed_functions as'
 
--- it is less where a function that is changed or whose new value is read is always one that is changed
+-- the rank of a function that is changed is less than that number, where each function whose new value is read is changed too
 abbrev pub ChangedRanksLaw : Type 0
 ChangedRanksLaw = (as' : List GuardedChange) → HasNoCycle as' → ((g h : ℕ) → IsBefore as' h g → Contains (map (λ a. a.fun) as') h) →
     (a : GuardedChange) → Contains as' a → change_rank as' a.fun < changed_functions as'
+
+-- The state after the changes of all ranks is what the changes of a function say of a new state: references read the old
+-- state, those with a quote the new one.
+abbrev pub NewStateLaw : Type 0
+NewStateLaw = (p : Parts) (i : Filling) → IsWellFormed p → (g : ℕ) (f : Function) → slice_get p.functions g ≡ Some f → (s : Store) (inv : Invocation) (t : Store) →
+    ChangesByRank (machine_of p i) s inv (changes_in (effect_trees f.kind)) t ↔ IsNewState (machine_of p i) s inv (changes_in (effect_trees f.kind)) t
 
 -- changes that read no new value are of one rank: they are all made over the old state alone
 abbrev pub OneRankLaw : Type 0

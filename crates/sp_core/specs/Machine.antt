@@ -112,9 +112,9 @@ pub record Changes (m : Machine) (s u : Store) (i : Invocation) (as' : List Guar
   pub named : (a : GuardedChange) (cs : List Value) → IsTrueChange m s i as' a cs → t a.fun (target m s u i a cs) ≡ Some (given m s u i a cs)
   pub others : (g : ℕ) (v : List Value) → ((a : GuardedChange) (cs : List Value) → IsTrueChange m s i as' a cs → a.fun ≡ g → target m s u i a cs ≡ v → ⊥) → t g v ≡ u g v
 
--- Ranks. A change may read new values, so the changes are made rank by rank: u is the state before the changes of rank k, from
--- state s. Before rank 0 it is s. Those of rank k name places and give values over s and the state before rank k, which is
--- the base too.
+-- Ranks. A change may read new values, so the changes are made rank by rank: u is the state before the changes of rank k,
+-- from state s. Before rank 0 it is s. Those of rank k name places and give values over s and the state before rank k,
+-- which is the base too.
 abbrev pub Stage : Machine → Store → Invocation → List GuardedChange → ℕ → Store → Type 0
 Stage m s i as' zero u = u ≡ s
 Stage m s i as' (suc k) u = (v : Store) × Stage m s i as' k v × Changes m s v i (of_rank as' k) u
@@ -122,6 +122,13 @@ Stage m s i as' (suc k) u = (v : Store) × Stage m s i as' k v × Changes m s v 
 -- t is the state after the changes of all ranks
 abbrev pub ChangesByRank : Machine → Store → Invocation → List GuardedChange → Store → Type 0
 ChangesByRank m s i as' t = Stage m s i as' (rank_count as') t
+
+-- t is what the changes say of a new state, without ranks: over the old state s and t itself each true change gives the
+-- place that it names its value, and each other place has the entry that it has in s. A law says that t is such a state
+-- exactly where it is the one after the changes of all ranks.
+pub record IsNewState (m : Machine) (s : Store) (i : Invocation) (as' : List GuardedChange) (t : Store) : Type 0 where
+  pub named : (a : GuardedChange) (cs : List Value) → IsTrueChange m s i as' a cs → t a.fun (target m s t i a cs) ≡ Some (given m s t i a cs)
+  pub others : (g : ℕ) (v : List Value) → ((a : GuardedChange) (cs : List Value) → IsTrueChange m s i as' a cs → a.fun ≡ g → target m s t i a cs ≡ v → ⊥) → t g v ≡ s g v
 
 -- two true changes give one place different values, over the old state s and the state u before their rank
 pub record IsConflictOf (m : Machine) (s u : Store) (i : Invocation) (as' : List GuardedChange) (a b : GuardedChange) (cs ds : List Value) : Type 0 where

@@ -1,6 +1,6 @@
 //! Laws of the definitions, each on a function that does nothing.
 
-ghost use Rattle.sp_core.specs.Laws.{AlikeLaw, AnswerLaw, ChangeLaw, ChangedRanksLaw, ConflictLaw, FewRanksLaw, FrontLaw, GuardLaw, JoinLaw, LevelLaw, ListLaw, LookLaw, OldLaw, OneRankLaw, OutcomeLaw, PutLaw, RankLaw, ResultLaw, RunLaw, SplitLaw, StateLaw, StepLaw, TypeLaw};
+ghost use Rattle.sp_core.specs.Laws.{AlikeLaw, AnswerLaw, ChangeLaw, ChangedRanksLaw, ConflictLaw, FewRanksLaw, FrontLaw, GuardLaw, JoinLaw, LevelLaw, ListLaw, LookLaw, NewStateLaw, OldValueLaw, OneRankLaw, OutcomeLaw, PutLaw, RankLaw, ResultLaw, RunLaw, SplitLaw, StateLaw, StepLaw, TypeLaw};
 
 /// What a state gives at a V-function is an entry, an initial value, or the value of a derivation over what it gives.
 pub fn look_law()
@@ -18,8 +18,8 @@ pub fn front_law()
 {}
 
 /// An expression that reads no new value has one value over whatever new state.
-pub fn old_law()
-    ensures { OldLaw }
+pub fn old_value_law()
+    ensures { OldValueLaw }
 {}
 
 /// States that are alike at a level give one value to an expression that depends on places at or below it alone.
@@ -75,6 +75,12 @@ pub fn few_ranks_law()
 /// A changed function's rank is less than that number where each function whose new value is read is changed.
 pub fn changed_ranks_law()
     ensures { ChangedRanksLaw }
+{}
+
+/// The state after the changes of all ranks is what the changes say of a new state: references read the old state, those
+/// with a quote the new one.
+pub fn new_state_law()
+    ensures { NewStateLaw }
 {}
 
 /// Changes that read no new value are all made over the old state alone.

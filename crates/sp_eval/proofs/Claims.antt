@@ -2,7 +2,7 @@
 use Rattle.std.proofs.Common.{◌≡◌, refl, sym, ◌∙◌, ap, subst, arith, ℕ, zero, suc, ◌+◌, ◌-◌, ◌<◌, ◌≤◌, Bool, true, List, [], ◌∷◌, ◌++◌, length, length-append, map, take, drop, get_or, Some, append_assoc, inl, inr}
 use Rattle.std.specs.Prelude.{IsTrue, slice_get, ◌↔◌}
 use Rattle.std.specs.List.{All, Contains, range_with_len}
-use Rattle.std.proofs.lemmas.List.{get_or_default, length-map}
+use Rattle.std.proofs.lemmas.List.{append-nil, get_or_default, length-map}
 use Rattle.std.proofs.lemmas.List.Elements.{All-head, All-tail}
 use Rattle.std.proofs.lemmas.Option.{slice_get_read}
 use Rattle.std.proofs.Math.Seq.{take-length}
@@ -28,10 +28,6 @@ use Rattle.sp_eval.specs.Admissible.{HoldsForAll, IsClaim}
 use Rattle.sp_eval.specs.Settings.{IsReady, Setting, new_reads, old_reads, population, proper_at, sizes, tree_value, world}
 use Rattle.sp_eval.proofs.Own.{reads_below}
 use Rattle.sp_eval.proofs.Ready.{proper_at_typed, proper_values_at}
-
-append_nil : {A : Type 0} (xs : List A) → xs ++ [] ≡ xs
-append_nil [] = refl
-append_nil (x ∷ xs) = ap (λ ys. x ∷ ys) (append_nil xs)
 
 -- Formals
 
@@ -86,20 +82,20 @@ module _ (s : Setting) where
   -- without variables the body is ready, and its value decides
   pub ready_claim : (ts : List Ty) (x : List Value) (b : Tree) → ts ≡ [] → IsClaim s ts x b → IsReady s 0 x b
   ready_claim [] x b e h = record {
-    typed = (h.0, ty.Boolean, record { values = h.1.values; typed = subst (λ xs. HasType (signature s.parts) xs b ty.Boolean) (append_nil h.0) h.1.typed; room = omega (arith, h.1.room) });
+    typed = (h.0, ty.Boolean, record { values = h.1.values; typed = subst (λ xs. HasType (signature s.parts) xs b ty.Boolean) (append-nil h.0) h.1.typed; room = omega (arith, h.1.room) });
     reads = reads_below s 0 Nothing Nothing (λ g n. absurd n) (λ g n. absurd n) b h.1.reads_nothing;
   }
   ready_claim (t ∷ ts) x b e h = cc
 
   pub holds_none : (ts : List Ty) (x : List Value) (b : Tree) → ts ≡ [] → IsClaim s ts x b → (v : Value) → v ≡ tree_value s x b → (r : Bool) → r ≡ is_true v → IsTrue r ↔ HoldsForAll (world s) ts x b
   holds_none (t ∷ ts) x b e h v q r i = cc
-  holds_none [] x b e h v q r i = (forward, λ all. i ∙ ap is_true same ∙ ap (λ y. is_true (value_of (world s) nothing nothing y b)) (sym (append_nil x)) ∙ all [] tt)
+  holds_none [] x b e h v q r i = (forward, λ all. i ∙ ap is_true same ∙ ap (λ y. is_true (value_of (world s) nothing nothing y b)) (sym (append-nil x)) ∙ all [] tt)
     where
       same : v ≡ value_of (world s) nothing nothing x b
       same = q ∙ sym (value_agrees (world s) nothing nothing (old_reads s) (new_reads s) Nothing (λ g v n. absurd n) b x h.1.reads_nothing)
 
       forward : IsTrue r → HoldsForAll (world s) [] x b
-      forward true_is [] bind = ap (λ y. is_true (value_of (world s) nothing nothing y b)) (append_nil x) ∙ ap is_true (sym same) ∙ sym i ∙ true_is
+      forward true_is [] bind = ap (λ y. is_true (value_of (world s) nothing nothing y b)) (append-nil x) ∙ ap is_true (sym same) ∙ sym i ∙ true_is
       forward true_is (c ∷ cs) bind = absurd bind
 
   -- a claim's rest, at a proper value of its first variable

@@ -3,7 +3,7 @@ use Rattle.std.proofs.Common.{◌≡◌, refl, ◌∙◌, ap, sym, arith, ℕ, z
 use Rattle.sp_core.specs.declared.expr.Expr.{Expr}
 use Rattle.sp_core.specs.declared.expr.Expr.TheVariants as expr
 use Rattle.sp_core.specs.Measures.{nodes, nodes_in}
-use Rattle.sp_core.specs.Tree.{Tree, Param, Look, New, count, tree, trees_of}
+use Rattle.sp_core.specs.Tree.{count, tree, trees_of}
 use Rattle.sp_core.proofs.TreeLemmas.{tree-Param, tree-Look, tree-New}
 
 pub count-trees : (ds : List Expr) → count (trees_of (map tree ds)) ≡ length ds

@@ -25,11 +25,11 @@ use Rattle.sp_core.specs.Values.{Store, level_number, look, nothing, reads_by, v
 use Rattle.sp_core.specs.WellFormed.{AreFormals, IsDerivation, IsEarlier, IsExpression, IsInitial, IsKind, IsLevel}
 use Rattle.sp_core.proofs.Agree.{value_agrees}
 use Rattle.sp_core.proofs.Looks.{look_is, rank_below, rank_small}
-use Rattle.sp_core.proofs.Bindings.{arguments_typed}
-use Rattle.sp_core.proofs.Types.{look_typed, ordered_functions}
+use Rattle.sp_core.proofs.Bindings.{arguments_typed, length_values}
+use Rattle.sp_core.proofs.Types.{level_below, look_typed, ordered_functions}
 use Rattle.sp_eval.specs.Conditions.{HasItsType, HasTypeOfRead, IsRead, IsTypedIn}
 use Rattle.sp_eval.specs.Settings.{IsRankedBelow, IsReady, IsSetting, Setting, new_reads, old_reads, sizes, tree_value, world}
-use Rattle.sp_eval.proofs.Ready.{length_typed, level_operand, typed_value}
+use Rattle.sp_eval.proofs.Ready.{typed_value}
 
 module _ (P Q N M : ℕ → Type 0) (looks : (g : ℕ) → P g → Q g) (news : (g : ℕ) → N g → M g) where
   mutual
@@ -55,7 +55,7 @@ reads_below s bound P N looks news e h = LooksAt-weaker P (IsRankedBelow s bound
 -- an expression over the types xs is ready at values of these types
 pub ready_expression : (s : Setting) (bound : ℕ) (xs : List Ty) (e : Tree) (t : Ty) (y : List Value) → length xs ≤ 8 → IsTrue (are_values (sizes s) xs y) → IsExpression (signature s.parts) xs e t → LooksAt (IsRankedBelow s bound) (IsRankedBelow s bound) e → IsReady s bound y e
 ready_expression s bound xs e t y few values h reads =
-    let long = length_typed (sizes s) xs y values in
+    let long = length_values (sizes s) xs y values in
     record { typed = (xs, t, record { values = values; typed = h.typed; room = omega (arith, long, few, h.few_quantifiers) }); reads = reads }
 
 pub few_types : (s : Setting) (f : Function) → AreFormals (signature s.parts) f.formals → length (types_of f.formals) ≤ 8
@@ -129,7 +129,7 @@ module _ (s : Setting) (fine : IsSetting s) (i : Invocation) (h : IsInvocation (
   pub level_within : (y : List Value) → y ≡ i.args → (v : Value) → v ≡ tree_value s y (tree f.level) → level_number v < s.parts.lattice.count
   level_within y q v e =
       let typed = typed_value s 0 i.args fine (types_of f.formals) (tree f.level) ty.Level values level_fine.expression.typed (reads_below s 0 Nothing Nothing (λ g n. absurd n) (λ g n. absurd n) (tree f.level) level_fine.reads_nothing) in
-      level_operand (sizes s) v (subst (λ v. IsTrue (is_value (sizes s) ty.Level v)) (sym (e ∙ ap (λ y. tree_value s y (tree f.level)) q)) typed)
+      level_below (sizes s) v (subst (λ v. IsTrue (is_value (sizes s) ty.Level v)) (sym (e ∙ ap (λ y. tree_value s y (tree f.level)) q)) typed)
 
 -- a primitive function is a V-function
 pub place_is_read : (s : Setting) (g : ℕ) (v : List Value) → IsPlace (machine_of s.parts (filling_of s.instance)) g v → IsRead s.parts s.instance g v

@@ -1,11 +1,10 @@
 -- The parts of a ready expression are ready, and their values are typed.
-use Rattle.std.proofs.Common.{◌≡◌, refl, sym, ◌∙◌, ap, subst, arith, ℕ, zero, suc, ◌+◌, ◌-◌, ◌<◌, ◌≤◌, Bool, true, false, ◌&&◌, ◌||◌, nat_lt, List, [], ◌∷◌, ◌++◌, length, length-append, map, take, get_or, Some}
+use Rattle.std.proofs.Common.{◌≡◌, refl, sym, ◌∙◌, ap, subst, arith, ℕ, zero, suc, ◌+◌, ◌-◌, ◌<◌, ◌≤◌, Bool, true, false, ◌&&◌, List, [], ◌∷◌, ◌++◌, length, length-append, map, take, get_or, Some}
 use Rattle.std.specs.Prelude.{IsTrue, slice_get}
 use Rattle.std.specs.List.{All, list_all, range_with_len}
 use Rattle.std.proofs.lemmas.List.{length-map, length-take-le}
 use Rattle.std.proofs.lemmas.List.Elements.{All-head, All-tail}
 use Rattle.std.proofs.Math.Seq.{take-length}
-use Rattle.std.proofs.lemmas.Bool.Decides.{Decides-ltb}
 use Rattle.std.proofs.lemmas.Option.{slice_get_within}
 use Rattle.sp_values.specs.declared.value.Value.{Value}
 use Rattle.sp_values.specs.declared.value.Value.TheVariants as value
@@ -19,45 +18,22 @@ use Rattle.sp_core.specs.declared.expr.Expr.{Expr}
 use Rattle.sp_core.specs.declared.expr.Expr.TheVariants as expr
 use Rattle.sp_core.specs.declared.function.Formal.{Formal}
 use Rattle.sp_core.specs.declared.function.Function.{Function}
-use Rattle.sp_core.specs.declared.function.Kind.{Kind}
-use Rattle.sp_core.specs.declared.function.Kind.TheVariants as kind
 use Rattle.sp_core.specs.Instances.{filling_of, machine_of}
 use Rattle.sp_core.specs.Machine.{IsPlace, types_of}
 use Rattle.sp_core.specs.Measures.{LookAt, LooksAt, quantifiers_in}
 use Rattle.sp_core.specs.Parts.{signature}
 use Rattle.sp_core.specs.States.{entry_of}
 use Rattle.sp_core.specs.Tree.{Tree, Trees, Two, Param, Look, Every, New, Var, count, none, more, tree, trees_of}
-use Rattle.sp_core.specs.Typing.{HasType, HaveTypes, MakesType, primitive_type, read_type}
-use Rattle.sp_core.specs.Values.{is_true, level_number}
+use Rattle.sp_core.specs.Typing.{HasType, HaveTypes, MakesType, read_type}
+use Rattle.sp_core.specs.Values.{is_true}
 use Rattle.sp_core.specs.WellFormed.{IsParam}
-use Rattle.sp_core.proofs.Bindings.{are_values-append}
-use Rattle.sp_core.proofs.StatesTyped.{initial_of}
-use Rattle.sp_core.proofs.Types.{both_true, level_typed, look_typed, member_typed, value_typed, values_typed}
+use Rattle.sp_core.proofs.Bindings.{are_values-append, length_values}
+use Rattle.sp_core.proofs.EffectsTyped.{initial_of}
+use Rattle.sp_core.proofs.Types.{both_true, level_below, level_typed, look_typed, member_typed, value_typed, values_typed}
 use Rattle.sp_eval.specs.Conditions.{IsRead}
 use Rattle.sp_eval.specs.Settings.{AreReady, IsBody, IsOperand, IsRankedBelow, IsReady, IsSetting, Setting, new_reads, old_reads, population, proper_at, sizes, tree_value, tree_values}
 use Rattle.sp_core.proofs.TreeLemmas.{tree-Var, tree-Two, tree-Param, tree-Look, tree-Every, tree-New}
 use Rattle.sp_eval.proofs.Nodes.{count-trees}
-
-pub length_typed : (sz : Sizes) (ts : List Ty) (vs : List Value) → are_values sz ts vs ≡ true → length vs ≡ length ts
-length_typed sz [] [] h = refl
-length_typed sz [] (v ∷ vs) h = cc
-length_typed sz (t ∷ ts) [] h = cc
-length_typed sz (t ∷ ts) (v ∷ vs) h = ap suc (length_typed sz ts vs (rest (is_value sz t v) h))
-  where
-    rest : (b : Bool) → (b && are_values sz ts vs) ≡ true → are_values sz ts vs ≡ true
-    rest true e = e
-    rest false e = cc
-
-or_false : (a : Bool) → (a || false) ≡ true → a ≡ true
-or_false true e = refl
-or_false false e = e
-
-pub level_operand : (sz : Sizes) (v : Value) → is_value sz ty.Level v ≡ true → level_number v < sz.levels
-level_operand sz (value.Level l) e = (Decides-ltb l sz.levels).0 (or_false (nat_lt l sz.levels) e)
-level_operand sz (value.Truth b) e = cc
-level_operand sz (value.Int b) e = cc
-level_operand sz (value.Member k b) e = cc
-level_operand sz value.Unknown e = cc
 
 integer_operand : (sz : Sizes) (v : Value) → is_value sz ty.Integer v ≡ true → IsInteger v
 integer_operand sz (value.Int n) e = tt
@@ -70,14 +46,14 @@ operand : (sz : Sizes) (o : Op) (u t : Ty) (v : Value) → MakesType o u t → i
 operand sz op.And u t v h x = tt
 operand sz op.Or u t v h x = tt
 operand sz op.Same u t v h x = tt
-operand sz op.LevelLe u t v h x = level_operand sz v (subst (λ u. is_value sz u v ≡ true) h.0 x)
+operand sz op.LevelLe u t v h x = level_below sz v (subst (λ u. is_value sz u v ≡ true) h.0 x)
 operand sz op.IntLe u t v h x = integer_operand sz v (subst (λ u. is_value sz u v ≡ true) h.0 x)
 operand sz op.IntLt u t v h x = integer_operand sz v (subst (λ u. is_value sz u v ≡ true) h.0 x)
 operand sz op.Add u t v h x = integer_operand sz v (subst (λ u. is_value sz u v ≡ true) h.0 x)
 operand sz op.Sub u t v h x = integer_operand sz v (subst (λ u. is_value sz u v ≡ true) h.0 x)
 operand sz op.Mul u t v h x = integer_operand sz v (subst (λ u. is_value sz u v ≡ true) h.0 x)
-operand sz op.Lub u t v h x = level_operand sz v (subst (λ u. is_value sz u v ≡ true) h.0 x)
-operand sz op.Glb u t v h x = level_operand sz v (subst (λ u. is_value sz u v ≡ true) h.0 x)
+operand sz op.Lub u t v h x = level_below sz v (subst (λ u. is_value sz u v ≡ true) h.0 x)
+operand sz op.Glb u t v h x = level_below sz v (subst (λ u. is_value sz u v ≡ true) h.0 x)
 
 pub at_index : {X : Type 0} (P : X → Type 0) (xs : List X) (k : ℕ) (v : X) → All P xs → slice_get xs k ≡ Some v → P v
 at_index P [] k v a e = cc
@@ -143,7 +119,7 @@ module _ (s : Setting) (n : ℕ) (x : List Value) where
   variable_within k e h i =
       let r : Ready (Var k) = subst Ready (ap tree i ∙ tree-Var k) h in
       let l : k < length r.typed.0 = slice_get_within r.typed.0 k r.typed.1 r.typed.2.typed in
-      omega (arith, l, length_typed (sizes s) r.typed.0 x r.typed.2.values)
+      omega (arith, l, length_values (sizes s) r.typed.0 x r.typed.2.values)
 
   -- the value of the body of a quantifier, at the values of the environment and one more
   pub every_value : (k : ℕ) (t : Ty) (e b d : Expr) → Ready (tree e) → e ≡ expr.Every k t b → d ≡ b →
@@ -151,7 +127,7 @@ module _ (s : Setting) (n : ℕ) (x : List Value) where
   every_value k t e b d h i j r q =
       let is_every : tree e ≡ Every k t (tree d) = ap tree (i ∙ ap (λ b. expr.Every k t b) (sym j)) ∙ tree-Every k t d in
       let ready : Ready (Every k t (tree d)) = subst Ready is_every h in
-      let number : k ≡ length x = ready.typed.2.typed.1 ∙ sym (length_typed (sizes s) ready.typed.0 x ready.typed.2.values) in
+      let number : k ≡ length x = ready.typed.2.typed.1 ∙ sym (length_values (sizes s) ready.typed.0 x ready.typed.2.values) in
       let whole : take k x ≡ x = ap (λ m. take m x) number ∙ take-length x in
       ap value.Truth (q ∙ ap (λ y. list_all (λ c. is_true (tree_value s (y ++ c ∷ []) (tree d))) (proper_values (sizes s) t)) (sym whole)) ∙ sym (ap (tree_value s x) is_every)
 

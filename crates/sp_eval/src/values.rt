@@ -43,8 +43,8 @@ pub fn eval_new(
     eval_over(spec, inst, old, new, env, e)
 }
 
-/// The value of an expression over an old and a new state, however their entries are looked up: an `Overlay` is a state with
-/// changes that aren't written to it.
+/// The value of an expression over an old and a new state, however their entries are looked up. An `Overlay` is a state
+/// with changes that aren't written to it.
 pub fn eval_over<B: Entries, N: Entries>(
     spec: &Spec,
     inst: &Instance,

@@ -1,4 +1,4 @@
-use Rattle.std.proofs.Common.{◌≡◌, refl, sym, ◌∙◌, ℕ, List, Option, Some, None}
+use Rattle.std.proofs.Common.{◌≡◌, refl, ◌∙◌, ℕ, List, Option, Some, None}
 use Rattle.sp_values.specs.declared.value.Value.{Value}
 use Rattle.sp_core.specs.Machine.{IsEntry, IsState, Machine}
 use Rattle.sp_core.specs.Values.{Store}

@@ -2,8 +2,7 @@ use Rattle.std.proofs.Common.{◌≡◌, ◌<◌, ◌++◌, ◌∷◌, [], sym, 
 use Rattle.sp_core.specs.States.{entry_of}
 use Rattle.sp_core.specs.Tree.{tree}
 use Rattle.sp_core.specs.Values.{is_true}
-use Rattle.sp_eval.specs.Settings.{IsRankedBelow, IsSetting, proper_at, sizes, tree_value}
-use Rattle.sp_eval.specs.Conditions.{IsRead}
+use Rattle.sp_eval.specs.Settings.{IsSetting, proper_at, sizes, tree_value}
 use Rattle.sp_eval.proofs.Nodes.{nodes-Look, nodes-New, nodes-Param, nodes-part}
 use Rattle.sp_eval.proofs.Ready.{every_value, fails_at, few_values, holds_each, left_operand, look_args, look_place, new_args, new_place, param_args, param_within, ready_body, ready_part, right_operand, variable_within}
 use Rattle.sp_eval.proofs.Own.{derivation_falls, gives_both, gives_derivation, gives_initial, gives_operation, found, initial_nodes, place_is_read, ready_derivation, ready_initial}

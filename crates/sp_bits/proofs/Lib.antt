@@ -1,0 +1,3 @@
+mod Words
+mod Tables
+pub mod Same

@@ -1,0 +1,5 @@
+mod ArgumentsApart
+pub mod Steps
+pub mod FactLemmas
+mod QuestionLemmas
+mod PoolTerms

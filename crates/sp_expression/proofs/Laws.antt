@@ -16,7 +16,7 @@ use Rattle.sp_grammar.proofs.Lists.{sub_star, sub_optional, fine_more}
 use Rattle.sp_grammar.proofs.Chain.{Sub, sub_refl, sub_seq, sub_either, sub_made, sub_binary, sub_nothing, fine_nothing}
 use Rattle.sp_grammar.proofs.Chains.{fine_chain}
 use Rattle.sp_grammar.proofs.Pairs.{fine_pair}
-use Rattle.sp_grammar.proofs.Rules.{Rule, fixed, token_rule, seq_rule, made_rule, either_rule, optional_rule, star_rule, behind_rule, room_rule, sub_room}
+use Rattle.sp_grammar.proofs.Productions.{Production, fixed, token_rule, seq_rule, made_rule, either_rule, optional_rule, star_rule, behind_rule, room_rule, sub_room}
 use Rattle.sp_expression.specs.Grammar.{at, ident, digits, number_tree, constant_tree, boolean_type, integer_type, level_type, named_type, formal_tree, some_list, args_list, named_tree, new_tree, paren_tree, if_tree, join_tree, quant_tree, not_tree, binary_tree, args, if_line, join_line, quant_line, primary_line, iff_ops, implies_ops, or_ops, and_ops, comparison_ops, sum_ops, product_ops, Tier, tier, primary, product, sum, comparison, negation, conjunction, disjunction, implication, expression}
 use Rattle.sp_expression.specs.Contract.{primary_first, expression_first}
 
@@ -100,58 +100,58 @@ module _ (ts : List Token) where
     same = λ v w i j p q. digits_same v w p.0.0 q.0.0 (sym p.0.1 ∙ q.0.1);
   }
 
-  abbrev pub token_at : ℕ → Rule (at ts) (Unit {0})
+  abbrev pub token_at : ℕ → Production (at ts) (Unit {0})
   token_at c = token_rule (at ts) c
 
-  abbrev pub ident_rule : Rule (at ts) Ident
+  abbrev pub ident_rule : Production (at ts) Ident
   ident_rule = fixed (at ts) false (name_code ∷ []) [] (ident ts) fine_ident
 
-  abbrev pub digits_rule : Rule (at ts) ℤ
+  abbrev pub digits_rule : Production (at ts) ℤ
   digits_rule = fixed (at ts) false (number_code ∷ []) [] (digits ts) fine_digits
 
-  abbrev pub sign_rule : Rule (at ts) (Option (Unit {0}))
+  abbrev pub sign_rule : Production (at ts) (Option (Unit {0}))
   sign_rule = optional_rule (at ts) (token_at minus) refl
 
-  abbrev pub number_rule : Rule (at ts) ExprTree
+  abbrev pub number_rule : Production (at ts) ExprTree
   number_rule = made_rule (at ts) (number_tree ts) (seq_rule (at ts) sign_rule digits_rule refl)
 
-  abbrev pub constant_rule : ℕ → ExprNode → Rule (at ts) ExprTree
+  abbrev pub constant_rule : ℕ → ExprNode → Production (at ts) ExprTree
   constant_rule c n = made_rule (at ts) (constant_tree ts n) (token_at c)
 
-  abbrev pub constants_4 : Rule (at ts) ExprTree
+  abbrev pub constants_4 : Production (at ts) ExprTree
   constants_4 = either_rule (at ts) (constant_rule word_bottom node.Bottom) (constant_rule word_top node.Top) refl refl refl
 
-  abbrev pub constants_3 : Rule (at ts) ExprTree
+  abbrev pub constants_3 : Production (at ts) ExprTree
   constants_3 = either_rule (at ts) (constant_rule question node.Unknown) constants_4 refl refl refl
 
-  abbrev pub constants_2 : Rule (at ts) ExprTree
+  abbrev pub constants_2 : Production (at ts) ExprTree
   constants_2 = either_rule (at ts) (constant_rule word_false (node.Truth false)) constants_3 refl refl refl
 
-  abbrev pub constants_rule : Rule (at ts) ExprTree
+  abbrev pub constants_rule : Production (at ts) ExprTree
   constants_rule = either_rule (at ts) (constant_rule word_true (node.Truth true)) constants_2 refl refl refl
 
-  abbrev pub boolean_rule : Rule (at ts) TypeTree
+  abbrev pub boolean_rule : Production (at ts) TypeTree
   boolean_rule = made_rule (at ts) (boolean_type ts) (token_at word_boolean)
 
-  abbrev pub integer_rule : Rule (at ts) TypeTree
+  abbrev pub integer_rule : Production (at ts) TypeTree
   integer_rule = made_rule (at ts) (integer_type ts) (token_at word_integer)
 
-  abbrev pub level_rule : Rule (at ts) TypeTree
+  abbrev pub level_rule : Production (at ts) TypeTree
   level_rule = made_rule (at ts) (level_type ts) (token_at word_level)
 
-  abbrev pub named_type_rule : Rule (at ts) TypeTree
+  abbrev pub named_type_rule : Production (at ts) TypeTree
   named_type_rule = made_rule (at ts) (named_type ts) ident_rule
 
-  abbrev pub types_3 : Rule (at ts) TypeTree
+  abbrev pub types_3 : Production (at ts) TypeTree
   types_3 = either_rule (at ts) level_rule named_type_rule refl refl refl
 
-  abbrev pub types_2 : Rule (at ts) TypeTree
+  abbrev pub types_2 : Production (at ts) TypeTree
   types_2 = either_rule (at ts) integer_rule types_3 refl refl refl
 
-  abbrev pub type_rule : Rule (at ts) TypeTree
+  abbrev pub type_rule : Production (at ts) TypeTree
   type_rule = either_rule (at ts) boolean_rule types_2 refl refl refl
 
-  abbrev pub formal_rule : Rule (at ts) FormalTree
+  abbrev pub formal_rule : Production (at ts) FormalTree
   formal_rule = made_rule (at ts) (formal_tree ts) (seq_rule (at ts) type_rule ident_rule refl)
 
   -- expressions, with their laws
@@ -162,109 +162,109 @@ module _ (ts : List Token) where
 
   -- the lines of primaries over expressions
   module _ (x : Exprs) where
-    abbrev pub expr_rule : Rule (at ts) ExprTree
+    abbrev pub expr_rule : Production (at ts) ExprTree
     expr_rule = record { null = false; first = expression_first; more = expression_more; form = x.form; fine = x.fine; grows = x.grows }
 
-    abbrev pub behind_expr : ℕ → Rule (at ts) ExprTree
+    abbrev pub behind_expr : ℕ → Production (at ts) ExprTree
     behind_expr c = behind_rule (at ts) c expr_rule
 
-    abbrev pub rest_rule : Rule (at ts) (List ExprTree)
+    abbrev pub rest_rule : Production (at ts) (List ExprTree)
     rest_rule = star_rule (at ts) (behind_expr comma) refl refl
 
-    abbrev pub some_rule : Rule (at ts) (List ExprTree)
+    abbrev pub some_rule : Production (at ts) (List ExprTree)
     some_rule = made_rule (at ts) (some_list ts) (seq_rule (at ts) expr_rule rest_rule refl)
 
-    abbrev pub list_rule : Rule (at ts) (Option (List ExprTree))
+    abbrev pub list_rule : Production (at ts) (Option (List ExprTree))
     list_rule = optional_rule (at ts) some_rule refl
 
-    abbrev pub list_end : Rule (at ts) (Option (List ExprTree) × Unit {0})
+    abbrev pub list_end : Production (at ts) (Option (List ExprTree) × Unit {0})
     list_end = seq_rule (at ts) list_rule (token_at right_parenthesis) refl
 
-    abbrev pub args_rule : Rule (at ts) (List ExprTree)
+    abbrev pub args_rule : Production (at ts) (List ExprTree)
     args_rule = made_rule (at ts) (args_list ts) (seq_rule (at ts) (token_at left_parenthesis) list_end refl)
 
-    abbrev pub given_args : Rule (at ts) (Option (List ExprTree))
+    abbrev pub given_args : Production (at ts) (Option (List ExprTree))
     given_args = optional_rule (at ts) args_rule refl
 
-    abbrev pub named_rule : Rule (at ts) ExprTree
+    abbrev pub named_rule : Production (at ts) ExprTree
     named_rule = made_rule (at ts) (named_tree ts) (seq_rule (at ts) ident_rule given_args refl)
 
-    abbrev pub new_end : Rule (at ts) (Ident × List ExprTree)
+    abbrev pub new_end : Production (at ts) (Ident × List ExprTree)
     new_end = seq_rule (at ts) ident_rule args_rule refl
 
-    abbrev pub new_rule : Rule (at ts) ExprTree
+    abbrev pub new_rule : Production (at ts) ExprTree
     new_rule = made_rule (at ts) (new_tree ts) (seq_rule (at ts) (token_at quote) new_end refl)
 
-    abbrev pub paren_rule : Rule (at ts) ExprTree
+    abbrev pub paren_rule : Production (at ts) ExprTree
     paren_rule = made_rule (at ts) (paren_tree ts) (seq_rule (at ts) (behind_expr left_parenthesis) (token_at right_parenthesis) refl)
 
-    abbrev pub else_end : Rule (at ts) (ExprTree × Unit {0})
+    abbrev pub else_end : Production (at ts) (ExprTree × Unit {0})
     else_end = seq_rule (at ts) (behind_expr word_else) (token_at word_end_if) refl
 
-    abbrev pub then_end : Rule (at ts) (ExprTree × (ExprTree × Unit {0}))
+    abbrev pub then_end : Production (at ts) (ExprTree × (ExprTree × Unit {0}))
     then_end = seq_rule (at ts) (behind_expr word_then) else_end refl
 
-    abbrev pub if_rule : Rule (at ts) ExprTree
+    abbrev pub if_rule : Production (at ts) ExprTree
     if_rule = made_rule (at ts) (if_tree ts) (seq_rule (at ts) (behind_expr word_if) then_end refl)
 
-    abbrev pub second_end : Rule (at ts) (ExprTree × Unit {0})
+    abbrev pub second_end : Production (at ts) (ExprTree × Unit {0})
     second_end = seq_rule (at ts) (behind_expr comma) (token_at right_parenthesis) refl
 
-    abbrev pub both_end : Rule (at ts) (ExprTree × (ExprTree × Unit {0}))
+    abbrev pub both_end : Production (at ts) (ExprTree × (ExprTree × Unit {0}))
     both_end = seq_rule (at ts) (behind_expr left_parenthesis) second_end refl
 
-    abbrev pub join_end : Rule (at ts) (Unit {0} × (ExprTree × (ExprTree × Unit {0})))
+    abbrev pub join_end : Production (at ts) (Unit {0} × (ExprTree × (ExprTree × Unit {0})))
     join_end = seq_rule (at ts) (room_rule (at ts) expr_rule) both_end refl
 
-    abbrev pub join_rule : ℕ → Bool → Rule (at ts) ExprTree
+    abbrev pub join_rule : ℕ → Bool → Production (at ts) ExprTree
     join_rule c lub = made_rule (at ts) (join_tree ts lub) (seq_rule (at ts) (token_at c) join_end refl)
 
     -- a token that closes doesn't go on with an expression
     module _ (c close : ℕ) (forall : Bool) (clear : IsTrue (apart expression_more (close ∷ []))) where
-      abbrev pub body_end : Rule (at ts) (ExprTree × Unit {0})
+      abbrev pub body_end : Production (at ts) (ExprTree × Unit {0})
       body_end = seq_rule (at ts) (behind_expr colon) (token_at close) clear
 
-      abbrev pub bound_end : Rule (at ts) (FormalTree × (ExprTree × Unit {0}))
+      abbrev pub bound_end : Production (at ts) (FormalTree × (ExprTree × Unit {0}))
       bound_end = seq_rule (at ts) formal_rule body_end refl
 
-      abbrev pub quant_end : Rule (at ts) (Unit {0} × (FormalTree × (ExprTree × Unit {0})))
+      abbrev pub quant_end : Production (at ts) (Unit {0} × (FormalTree × (ExprTree × Unit {0})))
       quant_end = seq_rule (at ts) (room_rule (at ts) expr_rule) bound_end refl
 
-      abbrev pub quant_rule : Rule (at ts) ExprTree
+      abbrev pub quant_rule : Production (at ts) ExprTree
       quant_rule = made_rule (at ts) (quant_tree ts forall) (seq_rule (at ts) (token_at c) quant_end refl)
 
-    abbrev pub forall_rule : Rule (at ts) ExprTree
+    abbrev pub forall_rule : Production (at ts) ExprTree
     forall_rule = quant_rule word_forall word_end_forall true refl
 
-    abbrev pub exists_rule : Rule (at ts) ExprTree
+    abbrev pub exists_rule : Production (at ts) ExprTree
     exists_rule = quant_rule word_exists word_end_exists false refl
 
     -- the choices of a primary, from the last one on
-    abbrev pub primary_9 : Rule (at ts) ExprTree
+    abbrev pub primary_9 : Production (at ts) ExprTree
     primary_9 = either_rule (at ts) forall_rule exists_rule refl refl refl
 
-    abbrev pub primary_8 : Rule (at ts) ExprTree
+    abbrev pub primary_8 : Production (at ts) ExprTree
     primary_8 = either_rule (at ts) (join_rule word_glb false) primary_9 refl refl refl
 
-    abbrev pub primary_7 : Rule (at ts) ExprTree
+    abbrev pub primary_7 : Production (at ts) ExprTree
     primary_7 = either_rule (at ts) (join_rule word_lub true) primary_8 refl refl refl
 
-    abbrev pub primary_6 : Rule (at ts) ExprTree
+    abbrev pub primary_6 : Production (at ts) ExprTree
     primary_6 = either_rule (at ts) if_rule primary_7 refl refl refl
 
-    abbrev pub primary_5 : Rule (at ts) ExprTree
+    abbrev pub primary_5 : Production (at ts) ExprTree
     primary_5 = either_rule (at ts) paren_rule primary_6 refl refl refl
 
-    abbrev pub primary_4 : Rule (at ts) ExprTree
+    abbrev pub primary_4 : Production (at ts) ExprTree
     primary_4 = either_rule (at ts) new_rule primary_5 refl refl refl
 
-    abbrev pub primary_3 : Rule (at ts) ExprTree
+    abbrev pub primary_3 : Production (at ts) ExprTree
     primary_3 = either_rule (at ts) named_rule primary_4 refl refl refl
 
-    abbrev pub primary_2 : Rule (at ts) ExprTree
+    abbrev pub primary_2 : Production (at ts) ExprTree
     primary_2 = either_rule (at ts) constants_rule primary_3 refl refl refl
 
-    abbrev pub primary_rule : Rule (at ts) ExprTree
+    abbrev pub primary_rule : Production (at ts) ExprTree
     primary_rule = either_rule (at ts) number_rule primary_2 refl refl refl
 
   pub record FineTier (t : Tier ts) : Type 0 where
@@ -347,7 +347,7 @@ module _ (ts : List Token) where
   grows (suc b) = above b (grows b)
 
   -- not = NOT not | rel
-  abbrev pub not_rule : (n : Rule (at ts) ExprTree) → Rule (at ts) ExprTree
+  abbrev pub not_rule : (n : Production (at ts) ExprTree) → Production (at ts) ExprTree
   not_rule n = made_rule (at ts) (not_tree ts) (behind_rule (at ts) word_not n)
 
   fine_not : (n : Lang ExprTree) → Fine (at ts) false expression_first comparison_more n → (c : Lang ExprTree) → Fine (at ts) false primary_first comparison_more c

@@ -23,7 +23,3 @@ rank_small chain.Or = lit< tt
 rank_small chain.And = lit< tt
 rank_small chain.Sum = lit< tt
 rank_small chain.Product = lit< tt
-
-pub side_lower : (p : Pair) → chain_rank (pair_operand p) + 1 < pair_rank p
-side_lower pair.Implies = lit< tt
-side_lower pair.Comparison = lit< tt

@@ -14,7 +14,7 @@ use Rattle.sp_grammar.proofs.Laws.{Fine, apart-has, has-cons, has-split}
 use Rattle.sp_grammar.proofs.Chain.{Sub, sub_refl, sub_nothing, sub_prefix}
 use Rattle.sp_grammar.proofs.Lists.{Many, none, one_more, all_read}
 use Rattle.sp_grammar.proofs.Refusals.{refuses_made, refuses_item}
-use Rattle.sp_grammar.proofs.Rules.{Rule, lower_rule, room_rule}
+use Rattle.sp_grammar.proofs.Productions.{Production, lower_rule, room_rule}
 use Rattle.sp_grammar.proofs.Inside.{Inside, itself, as_same, under, of_made, of_lower, of_left, of_right, past, broken, past_token, blocked, last_token, no_last, omitted, given, given_refuses, room_reads, none_begins, closed_reads, at_any, other, only, none_of}
 use Rattle.sp_expression.specs.Contract.{primary_first, expression_first, constant_first, join_code, quant_code, close_code}
 use Rattle.sp_expression.specs.Grammar.{at, ident, tree, named_tree, new_tree, paren_tree, if_tree, join_tree, quant_tree, not_tree, some_list, args_list, number_line, constant_line, formal_line, args, primary, comparison, negation, expression}
@@ -82,7 +82,7 @@ module _ (ts : List Token) where
   -- the choices of a primary
 
   module _ (b c i : ℕ) (e : c ≡ suc b) where
-    abbrev In : Rule A ExprTree → Type 0
+    abbrev In : Production A ExprTree → Type 0
     In f = Inside f.form b i (primary ts) c i (λ w j. w) suc
 
     in_1 : In (primary_rule ts (exprs ts))
@@ -240,7 +240,7 @@ module _ (ts : List Token) where
         (in_6 (join_code false) o (λ k. cc) (λ k. cc) (λ k. cc) (λ k. cc) (λ k. cc))))
 
     -- what leaves no room for an expression
-    pub no_room : {V : Type 0} (g : Rule A V) (m n : ℕ) → Prefix (seq (room (expression ts 0)) (g.form 0)) m n → ⊥
+    pub no_room : {V : Type 0} (g : Production A V) (m n : ℕ) → Prefix (seq (room (expression ts 0)) (g.form 0)) m n → ⊥
     no_room g m n (inl (inl p)) = p
     no_room g m n (inl (inr (a, k, (e, x), p))) = x
     no_room g m n (inr (v, (k, (e, x), p))) = x
@@ -300,13 +300,13 @@ module _ (ts : List Token) where
         (in_9 (quant_code false) o (λ k. cc) (λ k. cc) (λ k. cc) (λ k. cc) (λ k. cc) (λ k. cc) (λ k. cc) (λ k. cc))
 
     module _ (forall : Bool) (o : A i ≡ quant_code forall) where
-      abbrev Bound : Rule A (FormalTree × (ExprTree × Unit {0}))
+      abbrev Bound : Production A (FormalTree × (ExprTree × Unit {0}))
       Bound = bound_end ts (exprs ts) (quant_code forall) (close_code forall) forall (quant_clear forall)
 
-      abbrev Quant : Rule A (Unit {0} × (FormalTree × (ExprTree × Unit {0})))
+      abbrev Quant : Production A (Unit {0} × (FormalTree × (ExprTree × Unit {0})))
       Quant = quant_end ts (exprs ts) (quant_code forall) (close_code forall) forall (quant_clear forall)
 
-      abbrev Body : Rule A (ExprTree × Unit {0})
+      abbrev Body : Production A (ExprTree × Unit {0})
       Body = body_end ts (exprs ts) (quant_code forall) (close_code forall) forall (quant_clear forall)
 
       on_quant : Inside (λ d. seq (token A (quant_code forall)) (Quant.form d)) b i (primary ts) c i (λ w j. quant_tree ts forall w i j) suc
@@ -346,13 +346,13 @@ module _ (ts : List Token) where
 
   -- NOT
 
-  abbrev negation_rule : Rule A ExprTree
+  abbrev negation_rule : Production A ExprTree
   negation_rule = record { null = false; first = expression_first; more = comparison_more; form = negation ts; fine = λ b. (fine ts b).negation; grows = λ b. (grows ts b).negation }
 
-  abbrev comparison_rule : Rule A ExprTree
+  abbrev comparison_rule : Production A ExprTree
   comparison_rule = record { null = false; first = primary_first; more = comparison_more; form = comparison ts; fine = λ b. (fine ts b).comparison; grows = λ b. (grows ts b).comparison }
 
-  abbrev lower_not : Rule A ExprTree
+  abbrev lower_not : Production A ExprTree
   lower_not = lower_rule A (not_rule ts negation_rule)
 
   out_not : (b : ℕ) → Sub (negation ts b) (either (lower_not.form b) (comparison ts b))

@@ -24,10 +24,15 @@ pub record IsFirstOff (F : ℕ → Lang ExprTree) (b i n : ℕ) : Type 0 where
 abbrev pub IsNoneOf : (ℕ → Lang ExprTree) → ℕ → ℕ → Type 0
 IsNoneOf F b i = (n : ℕ) (v : ExprTree) → IsFront F i n → (F b).whole v i n → ⊥
 
--- The fault is at the first token off: Limit height where it belongs to the front, else Unexpected.
+-- the token at n belongs to the front, and the tokens up to and with it are a prefix of F within a larger height
+pub record IsOver (F : ℕ → Lang ExprTree) (b i n : ℕ) : Type 0 where
+  pub front : (m : ℕ) × IsFront F i m × (n < m)
+  pub larger : (c : ℕ) × (b < c) × Prefix (F c) i (suc n)
+
+-- The fault is at the first token off: Limit height where the token belongs to the front, else Unexpected.
 abbrev pub Refused : (ℕ → Lang ExprTree) → ℕ → List Token → ℕ → ℕ → TextFault → Type 0
 Refused F b ts end i (fault.Malformed m) = (n : ℕ) × IsFirstOff F b i n × IsFront F i n × IsNoneOf F b i × (m ≡ record { span = place_of ts end n; rule = Unexpected })
-Refused F b ts end i (fault.Limit l) = (n : ℕ) × IsFirstOff F b i n × ((m : ℕ) → IsFront F i m → n < m) × IsNoneOf F b i × (l ≡ record { span = place_of ts end n; quantity = Height })
+Refused F b ts end i (fault.Limit l) = (n : ℕ) × IsFirstOff F b i n × IsOver F b i n × IsNoneOf F b i × (l ≡ record { span = place_of ts end n; quantity = Height })
 Refused F b ts end i fault.Memory = Unit {0}
 
 -- Where the front is F within the height b, its tree and the place behind it; else the fault.

@@ -20,7 +20,7 @@ use sp_tree::{ExprNode, ExprTree, FormalTree, Ident, TypeTree};
 use std::alloc::Global;
 
 /// The constant that stands there, if one does.
-pub fn constant_at(tokens: &[Token], place: usize) -> Option<ExprNode>
+pub(crate) fn constant_at(tokens: &[Token], place: usize) -> Option<ExprNode>
     ensures none { IfNone result (IsTrue (has constant_first (code_at tokens.now place)) → ⊥) }
     ensures some { IfSome result (λ n. (constant_line tokens.now).whole (spanned tokens.now n place (suc place)) place (suc place)) }
     ensures within { IfSome result (λ _. place < length tokens.now) }
@@ -66,7 +66,7 @@ fn opposite(number: i64) -> ExprNode
 }
 
 /// The number behind a sign.
-pub fn negative(tokens: &[Token], start: usize, end: u32) -> Result<ExprTree, TextFault>
+pub(crate) fn negative(tokens: &[Token], start: usize, end: u32) -> Result<ExprTree, TextFault>
     requires opens { code_at tokens.now start ≡ minus }
     requires within { start < length tokens.now }
     requires unsigned { All (λ t. IsUnsigned t.kind) tokens.now }
@@ -81,7 +81,7 @@ pub fn negative(tokens: &[Token], start: usize, end: u32) -> Result<ExprTree, Te
 }
 
 /// The name that stands there, if one does.
-pub fn ident_at(alloc: Global, tokens: &[Token], place: usize) -> Result<Option<Ident>, Memory>
+pub(crate) fn ident_at(alloc: Global, tokens: &[Token], place: usize) -> Result<Option<Ident>, Memory>
     ensures none { IfOk result (λ found. IfNone found (code_at tokens.now place ≡ name_code → ⊥)) }
     ensures some { IfOk result (λ found. IfSome found (λ v. slice_get tokens.now place ≡ Some (record { kind = kind.Name v.name; span = v.span }))) }
     ensures within { IfOk result (λ found. IfSome found (λ _. place < length tokens.now)) }
@@ -96,7 +96,7 @@ pub fn ident_at(alloc: Global, tokens: &[Token], place: usize) -> Result<Option<
 }
 
 /// The type that stands there, if one does.
-pub fn type_at(alloc: Global, tokens: &[Token], place: usize) -> Result<Option<TypeTree>, Memory>
+pub(crate) fn type_at(alloc: Global, tokens: &[Token], place: usize) -> Result<Option<TypeTree>, Memory>
     ensures none { IfOk result (λ found. IfNone found (IsTrue (has type_first (code_at tokens.now place)) → ⊥)) }
     ensures some { IfOk result (λ found. IfSome found (λ t. (type_line tokens.now).whole t place (suc place))) }
     ensures within { IfOk result (λ found. IfSome found (λ _. place < length tokens.now)) }
@@ -114,7 +114,7 @@ pub fn type_at(alloc: Global, tokens: &[Token], place: usize) -> Result<Option<T
 }
 
 /// A type and a name.
-pub fn formal(
+pub(crate) fn formal(
     alloc: Global,
     tokens: &[Token],
     start: usize,

@@ -1,9 +1,9 @@
-//! Reads expressions from their tokens, and the tokens and forms that every grammar above shares.
+//! Reads expressions from their tokens, and the single tokens that every reader above uses.
 #![tactic(auto)]
 
 mod build;
 mod expr;
-pub mod leaf;
+mod leaf;
 mod level;
 mod parse;
 pub mod tokens;

@@ -71,6 +71,25 @@ fn a_chain_leans_to_the_left(rt: HostRuntime) -> Result<(), Fail> {
 }
 
 #[test]
+fn a_tree_spans_its_tokens(rt: HostRuntime) -> Result<(), Fail> {
+    let (tree, _) = read(rt.alloc(), b"'f(xy) = LUB((ab), c)", 64)?;
+    let ExprNode::Binary(BinOp::Eq, left, right) = &tree.node else {
+        assert!(rt; false);
+        return Ok(());
+    };
+    let ExprNode::Join(true, first, second) = &right.get().node else {
+        assert!(rt; false);
+        return Ok(());
+    };
+    assert_eq!(rt; tree.span, Span { start: 0, end: 21 });
+    assert_eq!(rt; left.get().span, Span { start: 0, end: 6 });
+    assert_eq!(rt; right.get().span, Span { start: 9, end: 21 });
+    assert_eq!(rt; first.get().span, Span { start: 13, end: 17 });
+    assert_eq!(rt; second.get().span, Span { start: 19, end: 20 });
+    Ok(())
+}
+
+#[test]
 fn every_form_reads(rt: HostRuntime) {
     let text = b"IF a IFF b THEN FORALL BOOLEAN x: -1 = 'f(2, p) END_FORALL ELSE EXISTS t y:
         LUB(BOTTOM, GLB(TOP, l)) <= ? + 2 * (3) - q() OR TRUE END_EXISTS END_IF";

@@ -61,9 +61,6 @@ module _ {V : Type 0} (at : ℕ → ℕ) (ops : List ℕ) (make : ℕ → V → 
     pub whole : (v : V) (i j : ℕ) → g.whole v i j → (r : V × List Turn) × (v ≡ fold i r.0 r.1) × (run f).whole r i j
     pub part : (i m : ℕ) → g.part i m → (run f).part i m
 
-  pub within_nothing : (f : Lang V) → Within nothing f
-  within_nothing f = record { whole = λ v i j w. absurd w; part = λ i m p. absurd p }
-
   pub within_binary : (f single left right : Lang V) → Sub single f → Within left f → Sub right f → Within (binary at ops make single left right) f
   within_binary f single left right s l r = record {
     whole = λ v i j w. elim w [
@@ -107,9 +104,6 @@ module _ {V : Type 0} (at : ℕ → ℕ) (ops : List ℕ) (make : ℕ → V → 
 
   w : Within at ops make (binary at ops make f left right) f
   w = within_binary at ops make f f left right (sub_refl f) l r
-
-  le_runs : (v : V × List (Turn at ops make)) (i j : ℕ) → (run at ops make f).whole v i j → i < j
-  le_runs v i j x = elim (runs.span v i j x) [ inl h ↦ h | inr h ↦ absurd (let e : false ≡ true = h.0 in cc) ]
 
   pub fine_binary : Fine at false chain_first chain_more (binary at ops make f left right)
   fine_binary = record {

@@ -1,5 +1,5 @@
 -- The laws of the forms that only limit where another form may stand.
-use Rattle.std.proofs.Common.{◌≡◌, ℕ, inl, inr, true, false, ◌||◌, eqb, IsTrue, List, [], ◌∷◌, if◌then◌else◌, refl, ap, subst, arith}
+use Rattle.std.proofs.Common.{◌≡◌, ℕ, inl, inr, true, false, ◌||◌, eqb, IsTrue, List, [], ◌∷◌, if◌then◌else◌, refl, sym, ◌∙◌, ap, subst, arith}
 use Rattle.std.proofs.lemmas.Bool.{eq-eqb}
 use Rattle.sp_grammar.specs.Lang.{Lang, has, room, not_from, without}
 use Rattle.sp_grammar.proofs.Laws.{Fine, has-cons}
@@ -37,6 +37,20 @@ has-without xs (y ∷ ys) n off h = elim (has xs y) as (λ b. has xs y ≡ b →
     there : (y n : ℕ) (zs : List ℕ) → IsTrue (has zs n) → IsTrue (has (y ∷ zs) n)
     there y n zs r = elim (eqb y n) as (λ b. IsTrue (b || has zs n)) [ true ↦ refl | false ↦ r ]
 
+-- what the set without some holds, it held, and isn't one of these
+pub without-has : (xs ys : List ℕ) (n : ℕ) → IsTrue (has (without xs ys) n) → IsTrue (has ys n) × (IsTrue (has xs n) → ⊥)
+without-has xs [] n h = absurd cc
+without-has xs (y ∷ ys) n h = elim (has xs y) as (λ b. has xs y ≡ b → IsTrue (has (if b then without xs ys else y ∷ without xs ys) n) → IsTrue (has (y ∷ ys) n) × (IsTrue (has xs n) → ⊥)) [
+  | true ↦ λ e k. more (without-has xs ys n k)
+  | false ↦ λ e k. elim (has-cons y n (without xs ys) k) [
+    | inl f ↦ (ap (λ b. b || has ys n) (eq-eqb y n f), λ t. let z : has xs y ≡ true = subst (λ m. IsTrue (has xs m)) (sym f) t in let w : false ≡ true = sym e ∙ z in cc)
+    | inr r ↦ more (without-has xs ys n r)
+  ]
+] refl h
+  where
+    more : IsTrue (has ys n) × (IsTrue (has xs n) → ⊥) → IsTrue (has (y ∷ ys) n) × (IsTrue (has xs n) → ⊥)
+    more p = (elim (eqb y n) as (λ b. IsTrue (b || has ys n)) [ true ↦ refl | false ↦ p.0 ], p.1)
+
 pub fine_not_from : {V : Type 0} (at : ℕ → ℕ) (xs first more : List ℕ) (f : Lang V) → Fine at false first more f → Fine at false (without xs first) more (not_from at xs f)
 fine_not_from at xs first more f F = record {
   span = λ v i j w. F.span v i j w.0;
@@ -48,11 +62,4 @@ fine_not_from at xs first more f F = record {
   goes_on = λ v w i j m p q h. F.goes_on v w i j m p.0 q.0 h;
   goes_on_part = λ v i j m p q h. F.goes_on_part v i j m p.0 q.0 h;
   same = λ v w i j p q. F.same v w i j p.0 q.0;
-}
-
--- one form in another
-pub within_sub : {V : Type 0} (at : ℕ → ℕ) (ops : List ℕ) (make : ℕ → V → V → ℕ → ℕ → V) (g f : Lang V) → Sub g f → Within at ops make g f
-within_sub at ops make g f s = record {
-  whole = λ v i j w. ((v, []), refl, (j, s.whole v i j w, refl));
-  part = λ i m p. inl (s.part i m p);
 }

@@ -7,7 +7,7 @@ use Rattle.sp_grammar.proofs.Chain.{Sub, sub_refl, swap_either, sub_prefix}
 use Rattle.sp_grammar.proofs.Places.{seq_reads, token_reads, token_stops, made_reads, either_reads, lower_reads}
 use Rattle.sp_grammar.proofs.Lists.{none, optional_reads, optional_refuses, optional_exceeds_here, left_out}
 use Rattle.sp_grammar.proofs.Refusals.{refuses_ahead, refuses_made, refuses_second, refuses_first, refuses_lower, refuses_either}
-use Rattle.sp_grammar.proofs.Rules.{Rule, goes, token_rule, some_fine}
+use Rattle.sp_grammar.proofs.Productions.{Production, goes, token_rule, some_fine}
 
 -- where the code is known, it isn't another one
 pub other : (at : ℕ → ℕ) (xs : List ℕ) (c i : ℕ) → at i ≡ c → (IsTrue (has xs c) → ⊥) → IsTrue (has xs (at i)) → ⊥
@@ -94,21 +94,21 @@ module _ {V W : Type 0} (L : ℕ → Lang W) (b k c i : ℕ) (value : V → ℕ 
 
 module _ (at : ℕ → ℕ) {V W : Type 0} (L : ℕ → Lang W) (b k c i : ℕ) (value : V → ℕ → W) (up : ℕ → ℕ) where
   -- the first of two forms, where the other one can't begin
-  pub of_left : (f g : Rule at V) (p : f.null ≡ false) (q : g.null ≡ false) → (IsTrue (has g.first (at k)) → ⊥)
+  pub of_left : (f g : Production at V) (p : f.null ≡ false) (q : g.null ≡ false) → (IsTrue (has g.first (at k)) → ⊥)
       → Inside (λ d. either (f.form d) (g.form d)) b k L c i value up → Inside f.form b k L c i value up
   of_left f g p q off o = record {
     reads = λ w x j M. o.reads w x j (either_reads at f.first f.more g.first g.more f.form g.form (λ d. either (f.form d) (g.form d)) (some_fine at f p) (some_fine at g q) (λ d. sub_refl _) (λ d. sub_refl _) k off b x j w M);
     refuses = λ r S. o.refuses r (refuses_either at f.first f.more g.first g.more f.form g.form (λ d. either (f.form d) (g.form d)) (some_fine at f p) (some_fine at g q) (λ d. sub_refl _) (λ d. sub_refl _) k off b r S);
   }
 
-  pub of_right : (f g : Rule at V) (p : f.null ≡ false) (q : g.null ≡ false) → (IsTrue (has f.first (at k)) → ⊥)
+  pub of_right : (f g : Production at V) (p : f.null ≡ false) (q : g.null ≡ false) → (IsTrue (has f.first (at k)) → ⊥)
       → Inside (λ d. either (f.form d) (g.form d)) b k L c i value up → Inside g.form b k L c i value up
   of_right f g p q off o = record {
     reads = λ w x j M. o.reads w x j (either_reads at g.first g.more f.first f.more g.form f.form (λ d. either (f.form d) (g.form d)) (some_fine at g q) (some_fine at f p) (λ d. swap_either _ _) (λ d. swap_either _ _) k off b x j w M);
     refuses = λ r S. o.refuses r (refuses_either at g.first g.more f.first f.more g.form f.form (λ d. either (f.form d) (g.form d)) (some_fine at g q) (some_fine at f p) (λ d. swap_either _ _) (λ d. swap_either _ _) k off b r S);
   }
 
-module _ (at : ℕ → ℕ) {A B W : Type 0} (f : Rule at A) (g : Rule at B) (clear : IsTrue (apart f.more g.first))
+module _ (at : ℕ → ℕ) {A B W : Type 0} (f : Production at A) (g : Production at B) (clear : IsTrue (apart f.more g.first))
     (L : ℕ → Lang W) (b k c i : ℕ) (value : A × B → ℕ → W) (up : ℕ → ℕ) where
   -- behind the first part of a sequence, which is read
   pub past : Inside (λ d. seq (f.form d) (g.form d)) b k L c i value up → (v : A) (h k2 : ℕ) → Measures f.form b v h k k2
@@ -123,7 +123,7 @@ module _ (at : ℕ → ℕ) {A B W : Type 0} (f : Rule at A) (g : Rule at B) (cl
       → (r : Refusal) → Refuses f.form b k r → Refuses L c i r
   broken o e r S = o.refuses r (refuses_first at f.null g.null f.first f.more g.first g.more f.form g.form (goes at f) (goes at g) clear b k r e S)
 
-module _ (at : ℕ → ℕ) {B W : Type 0} (x : ℕ) (g : Rule at B) (L : ℕ → Lang W) (b k c i : ℕ) (value : Unit {0} × B → ℕ → W) (up : ℕ → ℕ) where
+module _ (at : ℕ → ℕ) {B W : Type 0} (x : ℕ) (g : Production at B) (L : ℕ → Lang W) (b k c i : ℕ) (value : Unit {0} × B → ℕ → W) (up : ℕ → ℕ) where
   -- behind a token that is there
   pub past_token : Inside (λ d. seq (token at x) (g.form d)) b k L c i value up → (s : ℕ) → s ≡ suc k → at k ≡ x → Inside g.form b s L c i (λ w j. value (tt, w) j) up
   past_token o s e t = subst (λ z. Inside g.form b z L c i (λ w j. value (tt, w) j) up) (sym e) (record {
@@ -162,7 +162,7 @@ module _ (at : ℕ → ℕ) {W : Type 0} (x : ℕ) (L : ℕ → Lang W) (b k c i
   no_last o ne = o.refuses (stops k) (token_stops at x b k ne)
 
 -- a form that may be left out
-module _ (at : ℕ → ℕ) {V : Type 0} (f : Rule at V) (p : f.null ≡ false) (b k : ℕ) where
+module _ (at : ℕ → ℕ) {V : Type 0} (f : Production at V) (p : f.null ≡ false) (b k : ℕ) where
   pub omitted : (IsTrue (has f.first (at k)) → ⊥) → Measures (λ d. optional (f.form d)) b None 0 k k
   omitted off = left_out at f.first f.more f.form (some_fine at f p) k b off
 
@@ -196,7 +196,7 @@ room_reads F some never b k le = record {
     least (suc c) w x = omega arith
 
 -- a form of which no token is there
-pub none_begins : (at : ℕ → ℕ) {V : Type 0} (f : Rule at V) (p : f.null ≡ false) (b i : ℕ) → (f.form b).part i i → (IsTrue (has f.first (at i)) → ⊥) → Stops f.form b i i
+pub none_begins : (at : ℕ → ℕ) {V : Type 0} (f : Production at V) (p : f.null ≡ false) (b i : ℕ) → (f.form b).part i i → (IsTrue (has f.first (at i)) → ⊥) → Stops f.form b i i
 none_begins at f p b i q off = record {
   so_far = inl q;
   front = λ c m x. elim (cases_lt i m) [

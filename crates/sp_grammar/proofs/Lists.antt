@@ -232,10 +232,6 @@ module _ {V : Type 0} (at : ℕ → ℕ) (first more : List ℕ) where
     to_optional c m (inl p) = inl p
     to_optional c m (inr (v, w)) = inr (Some v, w)
 
-    le_of : (c m : ℕ) → Prefix (F c) i m → i ≤ m
-    le_of c m (inl p) = (fine c).ahead i m p
-    le_of c m (inr (v, w)) = le_span i m _ ((fine c).span v i m w)
-
     pub optional_reads : (b h j : ℕ) (v : V) → Measures F b v h i j → Measures (λ c. optional (F c)) b (Some v) h i j
     optional_reads b h j v M =
         let ij = some_of (F h) (fine h) v i j M.whole in

@@ -244,12 +244,6 @@ module _ {V : Type 0} (at : ℕ → ℕ) (first_a more_a first_b more_b : List �
     | inr ge ↦ ge
   ]
 
-  short_a : (c i m : ℕ) → (IsTrue (has first_a (at i)) → ⊥) → Prefix (A c) i m → m ≤ i
-  short_a c i m off p = elim (cases_lt i m) [
-    | inl lt ↦ absurd (off (elim p [ inl x ↦ (FA c).start_part i m x lt | inr (v, w) ↦ (FA c).start v i m w lt ]))
-    | inr ge ↦ ge
-  ]
-
   module _ (i : ℕ) (off : IsTrue (has first_b (at i)) → ⊥) where
     not_b : (c : ℕ) (v : V) (j : ℕ) → (B c).whole v i j → ⊥
     not_b c v j w = off ((FB c).start v i j w (some_b c v i j w))
@@ -276,13 +270,6 @@ module _ {V : Type 0} (at : ℕ → ℕ) (first_a more_a first_b more_b : List �
       so_far = to_either b i n X.so_far;
       front = λ m p. elim (of_either b i m p) [ inl x ↦ X.front m x | inr x ↦ (let u = short b i m off x in omega arith) ];
       over = (X.over.0, to_either (X.over.0) i (suc n) X.over.1);
-    }
-
-    pub neither : (b : ℕ) → (IsTrue (has first_a (at i)) → ⊥) → (E b).part i i → Stops E b i i
-    neither b off2 p = record {
-      so_far = inl p;
-      front = λ c m q. elim (of_either c i m q) [ inl x ↦ short_a c i m off2 x | inr x ↦ short c i m off x ];
-      not_whole = λ c w x. elim ((out c).whole w i i x) [ inl y ↦ (let u = some_a c w i i y in omega arith) | inr y ↦ not_b c w i y ];
     }
 
 -- a form that adds one to the height

@@ -80,12 +80,8 @@ module _ {V : Type 0} (at : ℕ → ℕ) (ops : List ℕ) (make : ℕ → V → 
 
 -- A form with a budget of height: F b is the form within the budget b.
 
--- Within the budget b the tokens from i to j are F and stand for v, and with no token more they are a prefix of it, whatever the budget.
-pub record Reads {V : Type 0} (F : ℕ → Lang V) (b : ℕ) (v : V) (i j : ℕ) : Type 0 where
-  pub whole : (F b).whole v i j
-  pub front : (c m : ℕ) → Prefix (F c) i m → m ≤ j
-
--- The same, where h is the height: the least budget that is enough.
+-- Within the budget b the tokens from i to j are F and stand for v, and with no token more they are a prefix of it, whatever
+-- the budget; h is the height: the least budget that is enough.
 pub record Measures {V : Type 0} (F : ℕ → Lang V) (b : ℕ) (v : V) (h i j : ℕ) : Type 0 where
   pub whole : (F h).whole v i j
   pub fits : h ≤ b
@@ -103,12 +99,6 @@ pub record Exceeds {V : Type 0} (F : ℕ → Lang V) (b i n : ℕ) : Type 0 wher
   pub so_far : Prefix (F b) i n
   pub front : (m : ℕ) → Prefix (F b) i m → m ≤ n
   pub over : (c : ℕ) × Prefix (F c) i (suc n)
-
-module _ {V : Type 0} (at : ℕ → ℕ) (ops : List ℕ) (make : ℕ → V → V → ℕ → ℕ → V) (F : ℕ → Lang V) where
-  -- a chain that leans to the left
-  abbrev pub chain : ℕ → Lang V
-  chain zero = nothing
-  chain (suc b) = binary at ops make (F (suc b)) (chain b) (F b)
 
 -- one less to spend on height
 abbrev pub lower : {V : Type 0} → (ℕ → Lang V) → ℕ → Lang V

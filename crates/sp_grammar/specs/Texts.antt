@@ -1,6 +1,8 @@
 -- What the reader of a whole text answers, token by token: its tree, or a fault at the first token that no text within the
 -- limits goes on with. For the contract of each such reader, which names the form of its texts.
-use Rattle.std.specs.Prelude.{◌≡◌, ℕ, suc, ◌<◌, List, length, Result, MatchResult}
+use Rattle.std.specs.Prelude.{◌≡◌, ◌≢◌, ◌⊎◌, ℕ, suc, ◌<◌, List, length, Option, None, Some, Result, MatchResult, slice_get}
+use Rattle.sp_text.specs.declared.fault.Limit.{Limit}
+use Rattle.sp_text.specs.declared.fault.Span.{Span}
 use Rattle.sp_text.specs.declared.token.Token.{Token}
 use Rattle.sp_text.specs.declared.fault.TextFault.{TextFault}
 use Rattle.sp_text.specs.declared.fault.TextFault.TheVariants as fault
@@ -57,3 +59,32 @@ AnswersText F ts end r = MatchResult r (IsRead F ts) (RefusesText F ts end)
 -- Where the tokens read, no other answer comes, unless memory runs out.
 abbrev pub AnswersTextOnly : {V : Type 0} → (Limits → Lang V) → List Token → Result V TextFault → Type 0
 AnswersTextOnly {V} F ts r = (v : V) → IsRead F ts v → MatchResult r (λ u. u ≡ v) (λ e. e ≡ fault.Memory)
+
+-- Texts that read and whose trees may then exceed a number: `over` gives the limit that a tree exceeds, if any.
+
+-- the limit that the parts at these places exceed, at the first over the number
+abbrev pub limit_at : Quantity → Option Span → Option Limit
+limit_at q None = None
+limit_at q (Some s) = Some (record { span = s; quantity = q })
+
+abbrev pub over_number : ℕ → Quantity → List Span → Option Limit
+over_number n q spans = limit_at q (slice_get spans n)
+
+-- The fault is that of a text that doesn't read, or the limit that the tree of one that reads exceeds.
+abbrev pub RefusesCounted : {V : Type 0} → (Limits → Lang V) → (V → Option Limit) → List Token → ℕ → TextFault → Type 0
+RefusesCounted F over ts end (fault.Malformed m) = RefusesText F ts end (fault.Malformed m)
+RefusesCounted {V} F over ts end (fault.Limit l) = RefusesText F ts end (fault.Limit l) ⊎ ((v : V) × IsRead F ts v × (over v ≡ Some l))
+RefusesCounted F over ts end fault.Memory = Unit {0}
+
+-- Where the tokens read and their tree exceeds no number, the tree; else the fault.
+abbrev pub AnswersCounted : {V : Type 0} → (Limits → Lang V) → (V → Option Limit) → List Token → ℕ → Result V TextFault → Type 0
+AnswersCounted F over ts end r = MatchResult r (λ v. IsRead F ts v × (over v ≡ None)) (RefusesCounted F over ts end)
+
+-- what is answered where v is read and exceeds this limit, or none, unless memory runs out
+abbrev pub ReadOrOver : {V : Type 0} → V → Option Limit → Result V TextFault → Type 0
+ReadOrOver v None r = MatchResult r (λ u. u ≡ v) (λ e. e ≡ fault.Memory)
+ReadOrOver v (Some l) r = MatchResult r (λ u. ⊥) (λ e. (e ≢ fault.Memory) → e ≡ fault.Limit l)
+
+-- Where the tokens read, no other answer comes, unless memory runs out.
+abbrev pub AnswersCountedOnly : {V : Type 0} → (Limits → Lang V) → (V → Option Limit) → List Token → Result V TextFault → Type 0
+AnswersCountedOnly {V} F over ts r = (v : V) → IsRead F ts v → ReadOrOver v (over v) r

@@ -44,7 +44,3 @@ class_of-dollar b e = rw e refl
 pub class_of-symbol : (s : Symbol) → class_of (slice_index (symbol_text s) 0) ≡ others
 unfolding class_of
 class_of-symbol s = elim s as (λ s. class_of (slice_index (symbol_text s) 0) ≡ others) [ mark.LeftParenthesis ↦ refl | _ ↦ refl ]
-
-pub class_of-other : (b : ℕ) → space_byte b ≡ false → letter_byte b ≡ false → digit_byte b ≡ false → (b == 36) ≡ false → class_of b ≡ others
-unfolding class_of
-class_of-other b p q r s = rw (p, q, r, s) refl

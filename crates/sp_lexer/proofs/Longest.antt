@@ -109,15 +109,3 @@ module _ (text : List ℕ) where
     piece = h;
     longest = λ q m k. let e = blank_of q i m (alike blank q i j m h k) k in omega (arith, h.0);
   }
-
-  comment_ends : (i j m : ℕ) → IsComment text i j → IsComment text i m → m ≤ j
-  comment_ends i j m h k = elim (cases_lt j m) [
-    | inl lt ↦ absurd (k.between (j - 1) (omega (arith, h.room)) (omega (arith, h.room)) h.closes)
-    | inr le ↦ le
-  ]
-
-  pub comment_longest : (i j : ℕ) → IsComment text i j → IsLongest text comment i j
-  comment_longest i j h = record {
-    piece = h;
-    longest = λ q m k. comment_ends i j m h (comment_of q i m (alike comment q i j m h k) k);
-  }

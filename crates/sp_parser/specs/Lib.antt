@@ -1,2 +1,1 @@
-pub mod Contract
 pub mod Modules

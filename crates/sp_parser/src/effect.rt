@@ -1,184 +1,127 @@
-ghost use Rattle.std.specs.Prelude.{◌≡◌, ◌≤◌, ◌<◌, ℕ, length, All, IfOk};
-ghost use Rattle.sp_lexer.specs.Tokens.{IsUnsigned};
-ghost use Rattle.sp_text.specs.declared.fault.TextFault.TheVariants as fault;
-ghost use Rattle.sp_text.specs.declared.fault.Quantity.TheVariants as quantity;
-ghost use Rattle.sp_grammar.specs.Codes.{code_at, place_of, word_forall, word_if};
-ghost use Rattle.sp_parser.specs.Contract.{fixed, within, ParsesEffects, ParsesWithin};
-ghost use Rattle.sp_parser.specs.Modules.{bound_line, effect_within};
+//! Effects, which stand in one another.
 
-use crate::part::Part;
+ghost use Rattle.std.specs.Prelude.{◌≡◌};
+ghost use Rattle.sp_grammar.specs.Texts.{most};
+ghost use Rattle.sp_forms.specs.Cursors.{Reads};
+ghost use Rattle.sp_forms.specs.Grammars.{again};
+ghost use Rattle.sp_forms.specs.Readers.{read_in, read_line};
+ghost use Rattle.sp_parser.specs.Modules.{bound_line, effects_line, forall_effect_line, if_effect_line, nested_effects};
+
 use crate::statements::statement;
-use crate::tokens::{SEMICOLON, expect, expression, variable};
-use sp_expression::tokens::{
-    COLON, ELSE, END_FORALL, END_IF, FORALL, IF, THEN, begins_expr, is, place_at, span,
-};
-use sp_text::{Limit, Quantity, Sequence, TextFault, Token};
+use sp_cursor::lines::{begins_expression, formal};
+use sp_cursor::marks::{COLON, ELSE, END_FORALL, END_IF, FORALL, IF, SEMICOLON, THEN};
+use sp_cursor::{MOST_NESTING, Tokens, many};
+use sp_text::{Sequence, TextFault};
 use sp_tree::{EffectTree, FormalTree};
 use sqlite_items::Items;
 use std::alloc::Global;
 
-/// Effects, and the place behind them.
-#[derive(Debug, Drop)]
-pub struct EffectList {
-    pub items: Vec<EffectTree>,
-    pub next: usize,
-}
-
-/// The token there is the first that is nested too deep.
-fn too_deep(tokens: &[Token], end: u32, place: usize) -> TextFault
-    ensures { result ≡ fault.Limit (record { span = place_of tokens.now end place; quantity = quantity.EffectNesting }) }
-{
-    TextFault::Limit(Limit {
-        span: place_at(tokens, end, place),
-        quantity: Quantity::EffectNesting,
-    })
-}
-
-/// Any number of effects.
+/// Any number of effects, in which others stand in at most `nesting` levels.
 #[cycle(effect)]
-pub fn effects(
+#[tactic(auto, unfolding(crate::specs::Modules::effects_line))]
+fn effects(
     alloc: Global,
-    tokens: &[Token],
-    start: usize,
-    end: u32,
+    tokens: &mut Tokens<'_>,
     nesting: u32,
-) -> Result<EffectList, TextFault>
-    requires at { start ≤ length tokens.now }
-    requires unsigned { All (λ t. IsUnsigned t.kind) tokens.now }
-    ensures reads { ParsesEffects nesting tokens.now end start result }
-    ensures moves { IfOk result (λ x. start ≤ x.next) }
-    ensures within { IfOk result (λ x. x.next ≤ length tokens.now) }
+) -> Result<Items<EffectTree>, TextFault>
+    ensures { Reads (read_in nested_effects nesting effects_line tokens.old) result tokens.new }
 {
     let mut items = Vec::new(alloc);
-    let mut next = start;
-    while begins_expr(tokens, next) {
-        let item = effect(alloc, tokens, next, end, nesting)?;
-        items.push(item.tree)?;
-        next = item.next;
+    for _turn in 0..tokens.left() {
+        if !begins_expression(tokens) {
+            break;
+        }
+        items.push(effect(alloc, tokens, nesting)?)?;
     }
-    Ok(EffectList { items, next })
+    Ok(Items::from_vec(items))
 }
 
-/// An effect.
+/// An effect, in which others stand in at most `nesting` levels.
 #[cycle(effect)]
-fn effect(
-    alloc: Global,
-    tokens: &[Token],
-    start: usize,
-    end: u32,
-    nesting: u32,
-) -> Result<Part<EffectTree>, TextFault>
-    requires unsigned { All (λ t. IsUnsigned t.kind) tokens.now }
-    ensures reads { ParsesWithin (within nesting) (effect_within tokens.now) tokens.now end start result }
-    ensures moves { IfOk result (λ x. start < x.next) }
-    ensures within { IfOk result (λ x. x.next ≤ length tokens.now) }
+#[tactic(auto, using(sp_forms::proofs::Levels::unroll), unfolding(crate::specs::Modules::nested_effects, crate::specs::Modules::if_effect_line, crate::specs::Modules::forall_effect_line, crate::specs::Modules::plain_line))]
+fn effect(alloc: Global, tokens: &mut Tokens<'_>, nesting: u32) -> Result<EffectTree, TextFault>
+    ensures { Reads (read_in nested_effects nesting again tokens.old) result tokens.new }
 {
-    if is(tokens, start, IF) {
-        return if_effect(alloc, tokens, start, end, nesting);
+    if tokens.is(IF) {
+        if nesting == 0 {
+            return Err(tokens.too_deep());
+        }
+        return if_effect(alloc, tokens, nesting - 1);
     }
-    if is(tokens, start, FORALL) {
-        return forall_effect(alloc, tokens, start, end, nesting);
+    if tokens.is(FORALL) {
+        if nesting == 0 {
+            return Err(tokens.too_deep());
+        }
+        return forall_effect(alloc, tokens, nesting - 1);
     }
-    let plain = statement(alloc, tokens, start, end)?;
-    Ok(Part {
-        tree: EffectTree::Plain(plain.tree),
-        next: plain.next,
-    })
+    Ok(EffectTree::Plain(statement(alloc, tokens)?))
 }
 
 /// The effects under a condition, and those under its opposite.
 #[cycle(effect)]
-fn if_effect(
-    alloc: Global,
-    tokens: &[Token],
-    start: usize,
-    end: u32,
-    nesting: u32,
-) -> Result<Part<EffectTree>, TextFault>
-    requires unsigned { All (λ t. IsUnsigned t.kind) tokens.now }
-    requires opens { code_at tokens.now start ≡ word_if }
-    requires at { start < length tokens.now }
-    ensures reads { ParsesWithin (within nesting) (effect_within tokens.now) tokens.now end start result }
-    ensures moves { IfOk result (λ x. start < x.next) }
-    ensures within { IfOk result (λ x. x.next ≤ length tokens.now) }
+#[tactic(auto, unfolding(crate::specs::Modules::if_effect_line))]
+fn if_effect(alloc: Global, tokens: &mut Tokens<'_>, nesting: u32) -> Result<EffectTree, TextFault>
+    ensures { Reads (read_in nested_effects nesting if_effect_line tokens.old) result tokens.new }
 {
-    if nesting < 1 {
-        return Err(too_deep(tokens, end, start));
-    }
-    let next = expect(tokens, start, end, IF)?;
-    let condition = expression(alloc, tokens, next, end)?;
-    let next = expect(tokens, condition.next, end, THEN)?;
-    let yes = effects(alloc, tokens, next, end, nesting - 1)?;
-    let next = expect(tokens, yes.next, end, ELSE)?;
-    let no = effects(alloc, tokens, next, end, nesting - 1)?;
-    let next = expect(tokens, no.next, end, END_IF)?;
-    let next = expect(tokens, next, end, SEMICOLON)?;
-    let word = span(tokens, start, start + 1);
-    let (yes, no) = (Items::from_vec(yes.items), Items::from_vec(no.items));
-    Ok(Part {
-        tree: EffectTree::If(word, condition.tree, yes, no),
-        next,
-    })
+    let start = tokens.place();
+    tokens.expect(IF)?;
+    let condition = tokens.expression(alloc)?;
+    tokens.expect(THEN)?;
+    let yes = effects(alloc, tokens, nesting)?;
+    tokens.expect(ELSE)?;
+    let no = effects(alloc, tokens, nesting)?;
+    tokens.expect(END_IF)?;
+    tokens.expect(SEMICOLON)?;
+    Ok(EffectTree::If(tokens.span_at(start), condition, yes, no))
 }
 
 /// The effects for all values of one variable or two.
 #[cycle(effect)]
+#[tactic(auto, unfolding(crate::specs::Modules::forall_effect_line))]
 fn forall_effect(
     alloc: Global,
-    tokens: &[Token],
-    start: usize,
-    end: u32,
+    tokens: &mut Tokens<'_>,
     nesting: u32,
-) -> Result<Part<EffectTree>, TextFault>
-    requires unsigned { All (λ t. IsUnsigned t.kind) tokens.now }
-    requires opens { code_at tokens.now start ≡ word_forall }
-    requires at { start < length tokens.now }
-    ensures reads { ParsesWithin (within nesting) (effect_within tokens.now) tokens.now end start result }
-    ensures moves { IfOk result (λ x. start < x.next) }
-    ensures within { IfOk result (λ x. x.next ≤ length tokens.now) }
+) -> Result<EffectTree, TextFault>
+    ensures { Reads (read_in nested_effects nesting forall_effect_line tokens.old) result tokens.new }
 {
-    if nesting < 1 {
-        return Err(too_deep(tokens, end, start));
-    }
-    let next = expect(tokens, start, end, FORALL)?;
-    let variables = bound(alloc, tokens, next, end)?;
-    let next = expect(tokens, variables.next, end, COLON)?;
-    let below = effects(alloc, tokens, next, end, nesting - 1)?;
-    let next = expect(tokens, below.next, end, END_FORALL)?;
-    let next = expect(tokens, next, end, SEMICOLON)?;
-    let word = span(tokens, start, start + 1);
-    let below = Items::from_vec(below.items);
-    Ok(Part {
-        tree: EffectTree::Forall(word, variables.tree, below),
-        next,
-    })
+    let start = tokens.place();
+    tokens.expect(FORALL)?;
+    let variables = bound(alloc, tokens)?;
+    tokens.expect(COLON)?;
+    let below = effects(alloc, tokens, nesting)?;
+    tokens.expect(END_FORALL)?;
+    tokens.expect(SEMICOLON)?;
+    Ok(EffectTree::Forall(tokens.span_at(start), variables, below))
 }
 
 /// One variable, or two.
-fn bound(
-    alloc: Global,
-    tokens: &[Token],
-    start: usize,
-    end: u32,
-) -> Result<Part<Sequence<FormalTree>>, TextFault>
-    requires { start ≤ length tokens.now }
-    ensures reads { (n : ℕ) → ParsesWithin (within n) (fixed (bound_line tokens.now)) tokens.now end start result }
-    ensures moves { IfOk result (λ x. start < x.next) }
-    ensures within { IfOk result (λ x. x.next ≤ length tokens.now) }
+#[tactic(auto, unfolding(crate::specs::Modules::bound_line))]
+fn bound(alloc: Global, tokens: &mut Tokens<'_>) -> Result<Sequence<FormalTree>, TextFault>
+    ensures { Reads (read_line bound_line tokens.old) result tokens.new }
 {
-    let first = variable(alloc, tokens, start, end)?;
     let mut variables = Vec::new(alloc);
-    variables.push(first.tree)?;
-    if !is(tokens, first.next, SEMICOLON) {
-        return Ok(Part {
-            tree: Sequence::new(variables),
-            next: first.next,
-        });
+    variables.push(formal(alloc, tokens)?)?;
+    if tokens.is(SEMICOLON) {
+        tokens.expect(SEMICOLON)?;
+        variables.push(formal(alloc, tokens)?)?;
     }
-    let second = variable(alloc, tokens, first.next + 1, end)?;
-    variables.push(second.tree)?;
-    Ok(Part {
-        tree: Sequence::new(variables),
-        next: second.next,
-    })
+    Ok(Sequence::new(variables))
+}
+
+/// An effect of a function.
+fn outer_effect(alloc: Global, tokens: &mut Tokens<'_>) -> Result<EffectTree, TextFault>
+    ensures { Reads (read_in nested_effects most.nesting again tokens.old) result tokens.new }
+{
+    effect(alloc, tokens, MOST_NESTING)
+}
+
+/// The effects of a function.
+pub fn outer_effects(
+    alloc: Global,
+    tokens: &mut Tokens<'_>,
+) -> Result<Sequence<EffectTree>, TextFault>
+    ensures { Reads (read_in nested_effects most.nesting effects_line tokens.old) result tokens.new }
+{
+    many(alloc, tokens, begins_expression, outer_effect)
 }

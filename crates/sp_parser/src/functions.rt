@@ -1,336 +1,190 @@
-ghost use Rattle.std.specs.Prelude.{◌≡◌, ◌≤◌, ◌<◌, length, All, IfOk};
-ghost use Rattle.sp_lexer.specs.Tokens.{IsUnsigned};
-ghost use Rattle.sp_grammar.specs.Codes.{word_functions};
-ghost use Rattle.sp_grammar.specs.Lang.{star};
-ghost use Rattle.sp_grammar.specs.Texts.{most};
-ghost use Rattle.sp_parser.specs.Contract.{at_height, ParsesWithin};
-ghost use Rattle.sp_parser.specs.Modules.{effects_line, exception_line, function_line, functions_section, marks_line, maybe_exceptions, operation_body, operation_line, value_body, value_function_line, value_operation_line};
+//! Functions.
 
-use crate::effect::effects;
+ghost use Rattle.std.specs.Prelude.{◌≡◌, [], ◌∷◌};
+ghost use Rattle.sp_grammar.specs.Codes.{word_ofun, word_ovfun, word_vfun};
+ghost use Rattle.sp_grammar.specs.Lang.{has};
+ghost use Rattle.sp_grammar.specs.Texts.{most};
+ghost use Rattle.sp_forms.specs.Cursors.{lookahead, Reads};
+ghost use Rattle.sp_forms.specs.Grammars.{star};
+ghost use Rattle.sp_forms.specs.Readers.{read_in, read_line};
+ghost use Rattle.sp_parser.specs.Modules.{exception_line, exceptions_line, function_line, functions_line, marks_line, maybe_exceptions, nested_effects, operation_body, operation_line, value_body, value_function_line, value_operation_line};
+
+use crate::effect::outer_effects;
 use crate::names::{named, returned};
-use crate::part::Part;
-use crate::statements::{exception, statement_behind};
-use crate::tokens::{
-    DERIVATION, EFFECTS, EXCEPTIONS, FUNCTIONS, HIDDEN, INITIALLY, MOST_NESTING, OFUN, OVFUN,
-    SEMICOLON, VFUN, begins_function, begins_name, expect, name,
+use crate::statements::{exception, statement};
+use sp_cursor::lines::begins_name;
+use sp_cursor::marks::{
+    DERIVATION, EFFECTS, EXCEPTIONS, FUNCTIONS, HIDDEN, INITIALLY, OFUN, OVFUN, SEMICOLON, VFUN,
 };
-use sp_expression::tokens::is;
-use sp_text::{Sequence, TextFault, Token};
+use sp_cursor::{Tokens, many, section};
+use sp_text::{Sequence, TextFault};
 use sp_tree::{Body, EffectTree, ExprTree, FunDecl, Header, Ident};
 use std::alloc::Global;
 
 /// Exceptions by name, in order.
 type Exceptions = Sequence<(Ident, ExprTree)>;
 
-/// Exceptions, behind their keyword.
-fn exception_list(
-    alloc: Global,
-    tokens: &[Token],
-    start: usize,
-    end: u32,
-) -> Result<Part<Exceptions>, TextFault>
-    requires at { start ≤ length tokens.now }
-    requires unsigned { All (λ t. IsUnsigned t.kind) tokens.now }
-    ensures reads { ParsesWithin most (at_height tokens.now (λ e. star (exception_line tokens.now e))) tokens.now end start result }
-    ensures moves { IfOk result (λ x. start ≤ x.next) }
-    ensures within { IfOk result (λ x. x.next ≤ length tokens.now) }
+fn exception_list(alloc: Global, tokens: &mut Tokens<'_>) -> Result<Exceptions, TextFault>
+    ensures { Reads (read_line (star exception_line) tokens.old) result tokens.new }
 {
-    let mut items = Vec::new(alloc);
-    let mut next = start;
-    while begins_name(tokens, next) {
-        let item = exception(alloc, tokens, next, end)?;
-        items.push(item.tree)?;
-        next = item.next;
-    }
-    Ok(Part {
-        tree: Sequence::new(items),
-        next,
-    })
+    many(alloc, tokens, begins_name, exception)
 }
 
 /// Exceptions with their keyword, or none.
-fn exceptions(
-    alloc: Global,
-    tokens: &[Token],
-    start: usize,
-    end: u32,
-) -> Result<Part<Exceptions>, TextFault>
-    requires at { start ≤ length tokens.now }
-    requires unsigned { All (λ t. IsUnsigned t.kind) tokens.now }
-    ensures reads { ParsesWithin most (at_height tokens.now (maybe_exceptions tokens.now)) tokens.now end start result }
-    ensures moves { IfOk result (λ x. start ≤ x.next) }
-    ensures within { IfOk result (λ x. x.next ≤ length tokens.now) }
+fn maybe_exceptions(alloc: Global, tokens: &mut Tokens<'_>) -> Result<Exceptions, TextFault>
+    ensures { Reads (read_line maybe_exceptions tokens.old) result tokens.new }
 {
-    if !is(tokens, start, EXCEPTIONS) {
-        return Ok(Part {
-            tree: Sequence::new(Vec::new(alloc)),
-            next: start,
-        });
-    }
-    exception_list(alloc, tokens, start + 1, end)
+    section(alloc, tokens, EXCEPTIONS, begins_name, exception)
+}
+
+/// Exceptions, with their keyword.
+#[tactic(auto, unfolding(crate::specs::Modules::exceptions_line))]
+fn exceptions(alloc: Global, tokens: &mut Tokens<'_>) -> Result<Exceptions, TextFault>
+    ensures { Reads (read_line exceptions_line tokens.old) result tokens.new }
+{
+    tokens.expect(EXCEPTIONS)?;
+    exception_list(alloc, tokens)
 }
 
 /// Whether a value function is hidden, and its exceptions.
-fn marks(
-    alloc: Global,
-    tokens: &[Token],
-    start: usize,
-    end: u32,
-) -> Result<Part<(bool, Exceptions)>, TextFault>
-    requires at { start ≤ length tokens.now }
-    requires unsigned { All (λ t. IsUnsigned t.kind) tokens.now }
-    ensures reads { ParsesWithin most (at_height tokens.now (marks_line tokens.now)) tokens.now end start result }
-    ensures moves { IfOk result (λ x. start ≤ x.next) }
-    ensures within { IfOk result (λ x. x.next ≤ length tokens.now) }
+#[tactic(auto, unfolding(crate::specs::Modules::marks_line, crate::specs::Modules::exceptions_line))]
+fn marks(alloc: Global, tokens: &mut Tokens<'_>) -> Result<(bool, Exceptions), TextFault>
+    ensures { Reads (read_line marks_line tokens.old) result tokens.new }
 {
-    if is(tokens, start, HIDDEN) {
-        let next = expect(tokens, start + 1, end, SEMICOLON)?;
-        return Ok(Part {
-            tree: (true, Sequence::new(Vec::new(alloc))),
-            next,
-        });
+    if tokens.is(HIDDEN) {
+        tokens.expect(HIDDEN)?;
+        tokens.expect(SEMICOLON)?;
+        return Ok((true, Sequence::new(Vec::new(alloc))));
     }
-    if !is(tokens, start, EXCEPTIONS) {
-        return Ok(Part {
-            tree: (false, Sequence::new(Vec::new(alloc))),
-            next: start,
-        });
+    if tokens.is(EXCEPTIONS) {
+        return Ok((false, exceptions(alloc, tokens)?));
     }
-    let exceptions = exception_list(alloc, tokens, start + 1, end)?;
-    Ok(Part {
-        tree: (false, exceptions.tree),
-        next: exceptions.next,
-    })
+    Ok((false, Sequence::new(Vec::new(alloc))))
 }
 
 /// The first value of a value function, or what it is derived as.
-fn value_body(
-    alloc: Global,
-    tokens: &[Token],
-    start: usize,
-    end: u32,
-) -> Result<Part<Body>, TextFault>
-    requires unsigned { All (λ t. IsUnsigned t.kind) tokens.now }
-    ensures reads { ParsesWithin most (at_height tokens.now (value_body tokens.now)) tokens.now end start result }
-    ensures moves { IfOk result (λ x. start < x.next) }
-    ensures within { IfOk result (λ x. x.next ≤ length tokens.now) }
+#[tactic(auto, unfolding(crate::specs::Modules::value_body))]
+fn value_body(alloc: Global, tokens: &mut Tokens<'_>) -> Result<Body, TextFault>
+    ensures { Reads (read_line value_body tokens.old) result tokens.new }
 {
-    if is(tokens, start, INITIALLY) {
-        let value = statement_behind(alloc, tokens, start, end, INITIALLY)?;
-        return Ok(Part {
-            tree: Body::Initially(value.tree),
-            next: value.next,
-        });
+    if tokens.eat(INITIALLY) {
+        return Ok(Body::Initially(statement(alloc, tokens)?));
     }
-    let value = statement_behind(alloc, tokens, start, end, DERIVATION)?;
-    Ok(Part {
-        tree: Body::Derivation(value.tree),
-        next: value.next,
-    })
+    tokens.expect(DERIVATION)?;
+    Ok(Body::Derivation(statement(alloc, tokens)?))
 }
 
 /// A value function.
-fn value_function(
-    alloc: Global,
-    tokens: &[Token],
-    start: usize,
-    end: u32,
-) -> Result<Part<FunDecl>, TextFault>
-    requires unsigned { All (λ t. IsUnsigned t.kind) tokens.now }
-    ensures reads { ParsesWithin most (value_function_line tokens.now) tokens.now end start result }
-    ensures moves { IfOk result (λ x. start < x.next) }
-    ensures within { IfOk result (λ x. x.next ≤ length tokens.now) }
+#[tactic(auto, unfolding(crate::specs::Modules::value_function_line))]
+fn value_function(alloc: Global, tokens: &mut Tokens<'_>) -> Result<FunDecl, TextFault>
+    ensures { Reads (read_line value_function_line tokens.old) result tokens.new }
 {
-    let next = expect(tokens, start, end, VFUN)?;
-    let named = named(alloc, tokens, next, end)?;
-    let ty = returned(alloc, tokens, named.next, end)?;
-    let next = expect(tokens, ty.next, end, SEMICOLON)?;
-    let marks = marks(alloc, tokens, next, end)?;
-    let body = value_body(alloc, tokens, marks.next, end)?;
-    let (name, formals) = named.tree;
-    let (hidden, exceptions) = marks.tree;
+    tokens.expect(VFUN)?;
+    let (name, formals) = named(alloc, tokens)?;
+    let ty = Some(returned(alloc, tokens)?);
+    tokens.expect(SEMICOLON)?;
+    let (hidden, exceptions) = marks(alloc, tokens)?;
+    let body = value_body(alloc, tokens)?;
     let head = Header {
         name,
         formals,
-        ty: Some(ty.tree),
+        ty,
         result: None,
     };
-    let tree = FunDecl {
+    Ok(FunDecl {
         head,
         hidden,
         exceptions,
-        body: body.tree,
-    };
-    Ok(Part {
-        tree,
-        next: body.next,
-    })
-}
-
-/// Effects, behind their keyword.
-fn effects_part(
-    alloc: Global,
-    tokens: &[Token],
-    start: usize,
-    end: u32,
-) -> Result<Part<Sequence<EffectTree>>, TextFault>
-    requires unsigned { All (λ t. IsUnsigned t.kind) tokens.now }
-    ensures reads { ParsesWithin most (effects_line tokens.now) tokens.now end start result }
-    ensures moves { IfOk result (λ x. start < x.next) }
-    ensures within { IfOk result (λ x. x.next ≤ length tokens.now) }
-{
-    let next = expect(tokens, start, end, EFFECTS)?;
-    let list = effects(alloc, tokens, next, end, MOST_NESTING)?;
-    Ok(Part {
-        tree: Sequence::new(list.items),
-        next: list.next,
+        body,
     })
 }
 
 /// The exceptions of an operation, and its effects.
+#[tactic(auto, unfolding(crate::specs::Modules::operation_body))]
 fn operation_body(
     alloc: Global,
-    tokens: &[Token],
-    start: usize,
-    end: u32,
-) -> Result<Part<(Exceptions, Sequence<EffectTree>)>, TextFault>
-    requires at { start ≤ length tokens.now }
-    requires unsigned { All (λ t. IsUnsigned t.kind) tokens.now }
-    ensures reads { ParsesWithin most (operation_body tokens.now) tokens.now end start result }
-    ensures moves { IfOk result (λ x. start < x.next) }
-    ensures within { IfOk result (λ x. x.next ≤ length tokens.now) }
+    tokens: &mut Tokens<'_>,
+) -> Result<(Exceptions, Sequence<EffectTree>), TextFault>
+    ensures { Reads (read_in nested_effects most.nesting operation_body tokens.old) result tokens.new }
 {
-    let exceptions = exceptions(alloc, tokens, start, end)?;
-    let effects = effects_part(alloc, tokens, exceptions.next, end)?;
-    Ok(Part {
-        tree: (exceptions.tree, effects.tree),
-        next: effects.next,
-    })
+    let exceptions = maybe_exceptions(alloc, tokens)?;
+    tokens.expect(EFFECTS)?;
+    let effects = outer_effects(alloc, tokens)?;
+    Ok((exceptions, effects))
 }
 
 /// An operation without a value.
-fn operation(
-    alloc: Global,
-    tokens: &[Token],
-    start: usize,
-    end: u32,
-) -> Result<Part<FunDecl>, TextFault>
-    requires unsigned { All (λ t. IsUnsigned t.kind) tokens.now }
-    ensures reads { ParsesWithin most (operation_line tokens.now) tokens.now end start result }
-    ensures moves { IfOk result (λ x. start < x.next) }
-    ensures within { IfOk result (λ x. x.next ≤ length tokens.now) }
+#[tactic(auto, unfolding(crate::specs::Modules::operation_line))]
+fn operation(alloc: Global, tokens: &mut Tokens<'_>) -> Result<FunDecl, TextFault>
+    ensures { Reads (read_in nested_effects most.nesting operation_line tokens.old) result tokens.new }
 {
-    let next = expect(tokens, start, end, OFUN)?;
-    let named = named(alloc, tokens, next, end)?;
-    let next = expect(tokens, named.next, end, SEMICOLON)?;
-    let body = operation_body(alloc, tokens, next, end)?;
-    let (name, formals) = named.tree;
-    let (exceptions, effects) = body.tree;
+    tokens.expect(OFUN)?;
+    let (name, formals) = named(alloc, tokens)?;
+    tokens.expect(SEMICOLON)?;
+    let (exceptions, effects) = operation_body(alloc, tokens)?;
     let head = Header {
         name,
         formals,
         ty: None,
         result: None,
     };
-    let tree = FunDecl {
+    Ok(FunDecl {
         head,
         hidden: false,
         exceptions,
         body: Body::Effects(effects),
-    };
-    Ok(Part {
-        tree,
-        next: body.next,
     })
 }
 
 /// An operation with a value, by the name of its result.
-fn value_operation(
-    alloc: Global,
-    tokens: &[Token],
-    start: usize,
-    end: u32,
-) -> Result<Part<FunDecl>, TextFault>
-    requires unsigned { All (λ t. IsUnsigned t.kind) tokens.now }
-    ensures reads { ParsesWithin most (value_operation_line tokens.now) tokens.now end start result }
-    ensures moves { IfOk result (λ x. start < x.next) }
-    ensures within { IfOk result (λ x. x.next ≤ length tokens.now) }
+#[tactic(auto, unfolding(crate::specs::Modules::value_operation_line))]
+fn value_operation(alloc: Global, tokens: &mut Tokens<'_>) -> Result<FunDecl, TextFault>
+    ensures { Reads (read_in nested_effects most.nesting value_operation_line tokens.old) result tokens.new }
 {
-    let next = expect(tokens, start, end, OVFUN)?;
-    let named = named(alloc, tokens, next, end)?;
-    let ty = returned(alloc, tokens, named.next, end)?;
-    let result = name(alloc, tokens, ty.next, end)?;
-    let next = expect(tokens, result.next, end, SEMICOLON)?;
-    let body = operation_body(alloc, tokens, next, end)?;
-    let (name, formals) = named.tree;
-    let (exceptions, effects) = body.tree;
+    tokens.expect(OVFUN)?;
+    let (name, formals) = named(alloc, tokens)?;
+    let ty = Some(returned(alloc, tokens)?);
+    let result_name = Some(tokens.name(alloc)?);
+    tokens.expect(SEMICOLON)?;
+    let (exceptions, effects) = operation_body(alloc, tokens)?;
     let head = Header {
         name,
         formals,
-        ty: Some(ty.tree),
-        result: Some(result.tree),
+        ty,
+        result: result_name,
     };
-    let tree = FunDecl {
+    Ok(FunDecl {
         head,
         hidden: false,
         exceptions,
         body: Body::Effects(effects),
-    };
-    Ok(Part {
-        tree,
-        next: body.next,
     })
 }
 
 /// A function.
-fn function(
-    alloc: Global,
-    tokens: &[Token],
-    start: usize,
-    end: u32,
-) -> Result<Part<FunDecl>, TextFault>
-    requires unsigned { All (λ t. IsUnsigned t.kind) tokens.now }
-    ensures reads { ParsesWithin most (function_line tokens.now) tokens.now end start result }
-    ensures moves { IfOk result (λ x. start < x.next) }
-    ensures within { IfOk result (λ x. x.next ≤ length tokens.now) }
+#[tactic(auto, unfolding(crate::specs::Modules::function_line, crate::specs::Modules::value_function_line, crate::specs::Modules::operation_line))]
+fn function(alloc: Global, tokens: &mut Tokens<'_>) -> Result<FunDecl, TextFault>
+    ensures { Reads (read_in nested_effects most.nesting function_line tokens.old) result tokens.new }
 {
-    if is(tokens, start, VFUN) {
-        return value_function(alloc, tokens, start, end);
+    if tokens.is(VFUN) {
+        return value_function(alloc, tokens);
     }
-    if is(tokens, start, OFUN) {
-        return operation(alloc, tokens, start, end);
+    if tokens.is(OFUN) {
+        return operation(alloc, tokens);
     }
-    value_operation(alloc, tokens, start, end)
+    value_operation(alloc, tokens)
+}
+
+/// Whether a function begins with the next token.
+fn begins_function(tokens: &Tokens<'_>) -> bool
+    ensures { result ≡ has (word_vfun ∷ word_ofun ∷ word_ovfun ∷ []) (lookahead tokens.now) }
+{
+    tokens.is(VFUN) || tokens.is(OFUN) || tokens.is(OVFUN)
 }
 
 /// The functions, behind their keyword, or none.
-pub fn functions(
-    alloc: Global,
-    tokens: &[Token],
-    start: usize,
-    end: u32,
-) -> Result<Part<Sequence<FunDecl>>, TextFault>
-    requires at { start ≤ length tokens.now }
-    requires unsigned { All (λ t. IsUnsigned t.kind) tokens.now }
-    ensures reads { ParsesWithin most (functions_section tokens.now) tokens.now end start result }
-    ensures moves { IfOk result (λ x. start ≤ x.next) }
-    ensures within { IfOk result (λ x. x.next ≤ length tokens.now) }
+pub fn functions(alloc: Global, tokens: &mut Tokens<'_>) -> Result<Sequence<FunDecl>, TextFault>
+    ensures { Reads (read_in nested_effects most.nesting functions_line tokens.old) result tokens.new }
 {
-    let mut items = Vec::new(alloc);
-    if !is(tokens, start, FUNCTIONS) {
-        return Ok(Part {
-            tree: Sequence::new(items),
-            next: start,
-        });
-    }
-    let mut next = start + 1;
-    while begins_function(tokens, next) {
-        let item = function(alloc, tokens, next, end)?;
-        items.push(item.tree)?;
-        next = item.next;
-    }
-    Ok(Part {
-        tree: Sequence::new(items),
-        next,
-    })
+    section(alloc, tokens, FUNCTIONS, begins_function, function)
 }

@@ -6,10 +6,8 @@ mod functions;
 mod module;
 mod names;
 mod parse;
-mod part;
 mod sections;
 mod statements;
-mod tokens;
 
 pub use parse::parse_module;
 pub use sp_expression::parse_expr;

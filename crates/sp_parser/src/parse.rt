@@ -4,7 +4,7 @@ ghost use Rattle.sp_grammar.specs.Texts.{AnswersText, AnswersTextOnly};
 ghost use Rattle.sp_parser.specs.Modules.{module_line};
 
 use crate::module::module;
-use sp_expression::tokens::unexpected;
+use sp_cursor::Tokens;
 use sp_text::{TextFault, Token};
 use sp_tree::Module;
 use std::alloc::Global;
@@ -23,9 +23,5 @@ pub fn parse_module(alloc: Global, tokens: &[Token], end: u32) -> Result<Module,
     // So where the tokens are a module, its tree is the answer, but for memory.
     ensures only { AnswersTextOnly (module_line tokens.now) tokens.now result }
 {
-    let module = module(alloc, tokens, 0, end)?;
-    if module.next < tokens.len() {
-        return Err(unexpected(tokens, end, module.next));
-    }
-    Ok(module.tree)
+    module(alloc, &mut Tokens::new(tokens, end))
 }

@@ -2,8 +2,8 @@ ghost use Rattle.std.specs.Prelude.{◌≤◌, length};
 
 use super::parse_module;
 use sp_lexer::lex;
-use sp_text::TextFault;
-use sp_tree::{Body, EffectTree, FunDecl, Module};
+use sp_text::{Span, TextFault};
+use sp_tree::{Body, EffectTree, FunDecl, Module, TypeTree};
 use std::alloc::Global;
 use std::test::Fail;
 
@@ -63,5 +63,46 @@ fn a_function_has_its_parts(rt: HostRuntime) -> Result<(), Fail> {
     assert_eq!(rt; effects(set).map(|list| list.len()), Some(3));
     assert!(rt; set.head.ty.is_none() && get.head.result.is_some());
     assert_eq!(rt; effects(get).map(|list| list.len()), Some(1));
+    Ok(())
+}
+
+const NESTED_EFFECTS: &[u8] = b"MODULE m FUNCTIONS OFUN f(user u; INTEGER i); EFFECTS \
+    IF a THEN FORALL LEVEL l: END_FORALL; ELSE END_IF; END_MODULE";
+
+/// The span of a type.
+fn span(ty: &TypeTree) -> Span {
+    match ty {
+        TypeTree::Boolean(span) | TypeTree::Integer(span) | TypeTree::Level(span) => *span,
+        TypeTree::Named(name) => name.span,
+    }
+}
+
+#[test]
+fn keywords_and_types_span_their_token(rt: HostRuntime) -> Result<(), Fail> {
+    let module = read(rt.alloc(), NESTED_EFFECTS)?;
+    let [function] = module.functions.items() else {
+        assert!(rt; false);
+        return Ok(());
+    };
+    let [user, number] = function.head.formals.items() else {
+        assert!(rt; false);
+        return Ok(());
+    };
+    assert_eq!(rt; span(&user.ty), Span { start: 26, end: 30 });
+    assert_eq!(rt; span(&number.ty), Span { start: 34, end: 41 });
+    let Some([EffectTree::If(keyword, _, yes, _)]) = effects(function) else {
+        assert!(rt; false);
+        return Ok(());
+    };
+    assert_eq!(rt; *keyword, Span { start: 54, end: 56 });
+    let [EffectTree::Forall(keyword, variables, _)] = yes.as_slice() else {
+        assert!(rt; false);
+        return Ok(());
+    };
+    assert_eq!(rt; *keyword, Span { start: 64, end: 70 });
+    assert_eq!(rt;
+        variables.items().first().map(|v| span(&v.ty)),
+        Some(Span { start: 71, end: 76 })
+    );
     Ok(())
 }

@@ -1,0 +1,4 @@
+pub mod Cursors
+pub mod Grammars
+pub mod Readers
+pub mod Answers

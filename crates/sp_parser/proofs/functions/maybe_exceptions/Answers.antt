@@ -1,0 +1,9 @@
+use Rattle.std.proofs.Common.{[]}
+use Rattle.sp_forms.specs.Grammars.{first}
+use Rattle.sp_forms.specs.Readers.{read_line}
+use Rattle.sp_parser.specs.Modules.{exception_line, exceptions_line, maybe_exceptions}
+use Rattle.sp_parser.proofs.functions.maybe_exceptions.Goals as goal
+
+pub returns : goal.returns
+unfolding maybe_exceptions exceptions_line exception_line
+returns c = c.section.ensures (first [] exception_line) (read_line exception_line) (record { tells = λ i t e. e }) (record { reads = λ alloc old new r e. e.1 })

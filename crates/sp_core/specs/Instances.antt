@@ -2,6 +2,7 @@
 -- the machine that it makes.
 use Rattle.std.specs.Prelude.{◌≡◌, ℕ, ◌≤◌, IsTrue, List, [], ◌∷◌, length, map, Option, Some, None, slice_get, slice_index_or, if◌then◌else◌}
 use Rattle.std.specs.List.{All}
+use Rattle.sp_text.specs.declared.limits.TheConstants.{MOST_POPULATION}
 use Rattle.sp_values.specs.declared.value.Value.{Value}
 use Rattle.sp_values.specs.declared.value.Value.TheVariants as value
 use Rattle.sp_values.specs.Domains.{Sizes, are_values, is_value}
@@ -77,7 +78,7 @@ pub record IsInstance (p : Parts) (i : Filling) : Type 0 where
 
 -- an instance in memory: at most 64 different names for each type, an enumeration's being those of its members
 pub record IsInstanceOf (p : Parts) (i : InstanceParts) : Type 0 where
-  pub few : All (λ names. length names ≤ 64) i.members
+  pub few : All (λ names. length names ≤ MOST_POPULATION) i.members
   pub different : All AreDifferent i.members
   pub members : (k : ℕ) (info : TypeInfo) (names : List (List ℕ)) → slice_get p.types k ≡ Some info → info.members ≡ Some names → slice_get i.members k ≡ Some names
   pub instance : IsInstance p (filling_of i)

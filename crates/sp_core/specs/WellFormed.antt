@@ -1,6 +1,7 @@
 -- When the parts of a specification are well-formed: the invariant of `Spec`. Each fact of it has a name.
 use Rattle.std.specs.Prelude.{◌≡◌, ℕ, suc, ◌+◌, ◌<◌, ◌≤◌, Bool, false, ◌==◌, if◌then◌else◌, IsTrue, List, [], ◌∷◌, ◌++◌, length, map, Option, Some, None, slice_get}
 use Rattle.std.specs.List.{All, flat_map}
+use Rattle.sp_text.specs.declared.limits.TheConstants.{MOST_ARGUMENTS, MOST_ASSERTIONS, MOST_BOUND_VARIABLES, MOST_CHANGES, MOST_DERIVATION_DEPTH, MOST_EXCEPTIONS, MOST_EXPRESSION_NODES, MOST_FUNCTIONS, MOST_FUNCTION_NODES, MOST_MEMBERS, MOST_PARAMETERS, MOST_QUANTIFIERS, MOST_TYPES}
 use Rattle.sp_values.specs.declared.value.Ty.{Ty}
 use Rattle.sp_values.specs.declared.value.Ty.TheVariants as ty
 use Rattle.sp_lattice.specs.Order.{IsLatticeOrder}
@@ -45,15 +46,15 @@ names_of p =
 -- an expression of type t over variables of the types xs, within the limits of nodes and of quantifiers, without new values
 pub record IsExpression (sg : Signature) (xs : List Ty) (e : Tree) (t : Ty) : Type 0 where
   pub typed : HasType sg xs e t
-  pub few_nodes : nodes e ≤ 1024
-  pub few_quantifiers : quantifiers e ≤ 3
+  pub few_nodes : nodes e ≤ MOST_EXPRESSION_NODES
+  pub few_quantifiers : quantifiers e ≤ MOST_QUANTIFIERS
   pub no_new : LooksAt Anything Nothing e
 
 -- the same where it may read new values, which are those of primitive functions: it gives a place, its value or a result
 pub record IsNewExpression (sg : Signature) (xs : List Ty) (e : Tree) (t : Ty) : Type 0 where
   pub typed : HasType sg xs e t
-  pub few_nodes : nodes e ≤ 1024
-  pub few_quantifiers : quantifiers e ≤ 3
+  pub few_nodes : nodes e ≤ MOST_EXPRESSION_NODES
+  pub few_quantifiers : quantifiers e ≤ MOST_QUANTIFIERS
 
 -- such expressions, one for each type
 abbrev pub AreNewExpressions : Signature → List Ty → Trees → List Ty → Type 0
@@ -64,7 +65,7 @@ AreNewExpressions sg xs (more d ds) (t ∷ ts) = IsNewExpression sg xs d t × Ar
 
 -- at most eight formals, of types of the signature
 pub record AreFormals (sg : Signature) (formals : List Formal) : Type 0 where
-  pub few : length formals ≤ 8
+  pub few : length formals ≤ MOST_ARGUMENTS
   pub types : All (λ t. IsTrue (is_type sg t)) (types_of formals)
 
 -- Effects
@@ -99,8 +100,8 @@ IsInjective n a = (j : ℕ) → j < length a.vars → alone (n + j) a.args ≡ 1
 -- effects of a function with formals of the types xs; what their changes read new makes no cycle
 pub record AreEffectsOf (sg : Signature) (r : Option Ty) (xs : List Ty) (ws : EffectTrees) : Type 0 where
   pub effects : AreEffects sg r xs ws
-  pub few_bound : bound_variables_in ws ≤ 2
-  pub few_changes : length (changes_in ws) ≤ 64
+  pub few_bound : bound_variables_in ws ≤ MOST_BOUND_VARIABLES
+  pub few_changes : length (changes_in ws) ≤ MOST_CHANGES
   pub injective : All (IsInjective (length xs)) (changes_in ws)
   pub no_cycle : HasNoCycle (changes_in ws)
 
@@ -125,7 +126,7 @@ pub record IsDerivation (sg : Signature) (xs : List Ty) (g : ℕ) (t : Ty) (e : 
   pub type : IsTrue (is_type sg t)
   pub expression : IsExpression sg xs (tree e) t
   pub reads_earlier : LooksAt (IsEarlier sg.functions g) Nothing (tree e)
-  pub within_depth : IsWithinDepth sg.functions 16 g
+  pub within_depth : IsWithinDepth sg.functions MOST_DERIVATION_DEPTH g
 
 -- effects without a result
 pub record IsOperation (sg : Signature) (xs : List Ty) (ws : EffectTrees) : Type 0 where
@@ -154,12 +155,12 @@ pub record IsLevel (sg : Signature) (xs : List Ty) (e : Tree) : Type 0 where
 -- function number g
 pub record IsFunction (sg : Signature) (g : ℕ) (f : Function) : Type 0 where
   pub formals : AreFormals sg f.formals
-  pub few_exceptions : length f.exceptions ≤ 16
+  pub few_exceptions : length f.exceptions ≤ MOST_EXCEPTIONS
   pub exception_names : AreDifferent (map (λ e. e.0) f.exceptions)
   pub exceptions : All (λ e. IsExpression sg (types_of f.formals) (tree e.1) ty.Boolean) f.exceptions
   pub kind : IsKind sg (types_of f.formals) g f.kind
   pub level : IsLevel sg (types_of f.formals) (tree f.level)
-  pub few_nodes : function_nodes f ≤ 8192
+  pub few_nodes : function_nodes f ≤ MOST_FUNCTION_NODES
 
 -- a parameter
 pub record IsParam (sg : Signature) (q : Param) : Type 0 where
@@ -171,18 +172,18 @@ pub record IsAssertion (sg : Signature) (a : Assertion) : Type 0 where
   pub variables : All (λ t. IsTrue (is_finite sg t)) (types_of a.vars)
   pub body : IsExpression sg (types_of a.vars) (tree a.body) ty.Boolean
   pub reads_nothing : LooksAt Nothing Nothing (tree a.body)
-  pub few_quantifiers : length a.vars + quantifiers (tree a.body) ≤ 3
+  pub few_quantifiers : length a.vars + quantifiers (tree a.body) ≤ MOST_QUANTIFIERS
 
 -- a well-formed specification
 pub record IsWellFormed (p : Parts) : Type 0 where
   pub lattice : IsLatticeOrder p.lattice
   pub level_names : length p.level_names ≡ p.lattice.count
   pub names : AreDifferent (names_of p)
-  pub few_types : length p.types ≤ 64
-  pub few_members : All (λ i. length (members_of i) ≤ 64) p.types
-  pub few_params : length p.params ≤ 512
-  pub few_assertions : length p.assertions ≤ 64
-  pub few_functions : length p.functions ≤ 512
+  pub few_types : length p.types ≤ MOST_TYPES
+  pub few_members : All (λ i. length (members_of i) ≤ MOST_MEMBERS) p.types
+  pub few_params : length p.params ≤ MOST_PARAMETERS
+  pub few_assertions : length p.assertions ≤ MOST_ASSERTIONS
+  pub few_functions : length p.functions ≤ MOST_FUNCTIONS
   pub params : All (IsParam (signature p)) p.params
   pub assertions : All (IsAssertion (signature p)) p.assertions
   pub functions : (g : ℕ) (f : Function) → slice_get p.functions g ≡ Some f → IsFunction (signature p) g f

@@ -1,4 +1,5 @@
 ghost use Rattle.std.specs.Prelude.{◌≡◌, ◌<◌, ◌≤◌, length, map, slice_get, slice_index_or, Some, []};
+ghost use Rattle.sp_text.specs.declared.limits.TheConstants.{MOST_POPULATION};
 ghost use Rattle.sp_core.specs.Instances.{IsInstanceOf, InstanceParts, filling_of, row_value, table_value};
 
 use crate::spec::Spec;
@@ -24,6 +25,7 @@ impl Model for Instance {
     ghost use Rattle.std.specs.Prelude.{◌≤◌, length, map};
     ghost use Rattle.std.specs.List.{All};
     ghost use Rattle.std.specs.Coded.{codes};
+    ghost use Rattle.sp_text.specs.declared.limits.TheConstants.{MOST_POPULATION};
     ghost use Rattle.sp_core.specs.Instances.{InstanceParts};
 
     ghost Value = { InstanceParts };
@@ -32,7 +34,7 @@ impl Model for Instance {
 
     ghost view = { λ i. record { members = map (λ names. names.items) i.members.items; tables = i.tables.items } };
 
-    ghost invariant = { λ i. All (λ names. length names ≤ 64) (map (λ names. names.items) i.members.items) };
+    ghost invariant = { λ i. All (λ names. length names ≤ MOST_POPULATION) (map (λ names. names.items) i.members.items) };
 }
 
 // The value of the first row with these arguments, or the other value.
@@ -62,7 +64,7 @@ impl Instance {
         requires { ty < length self.now.members }
         ensures names { result.now ≡ slice_index_or self.now.members ty [] }
         ensures size { length result.now ≡ slice_index_or (filling_of self.now).sizes ty 0 }
-        ensures few { length result.now ≤ 64 }
+        ensures few { length result.now ≤ MOST_POPULATION }
     {
         self.members[ty as usize].as_slice()
     }
@@ -71,7 +73,7 @@ impl Instance {
     pub fn size(&self, ty: u16) -> u16
         requires { ty < length self.now.members }
         ensures size { result ≡ slice_index_or (filling_of self.now).sizes ty 0 }
-        ensures few { result ≤ 64 }
+        ensures few { result ≤ MOST_POPULATION }
     {
         self.names(ty).len() as u16
     }

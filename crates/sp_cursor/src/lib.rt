@@ -8,4 +8,4 @@ pub mod marks;
 mod tokens;
 
 pub use lists::{many, section, separated, separated_or_none};
-pub use tokens::{MOST_NESTING, Tokens};
+pub use tokens::Tokens;

@@ -13,17 +13,11 @@ ghost use Rattle.sp_forms.specs.Readers.{read_digits, read_end, read_expr, read_
 
 use sp_expression::read_expr;
 use sp_expression::tokens::{Mark, begins_expr, is, name_at, number_at, place_at, unexpected};
-use sp_text::{Limit, Name, Quantity, Span, TextFault, Token};
+use sp_text::{Limit, MOST_HEIGHT, Name, Quantity, Span, TextFault, Token};
 use sp_tree::{ExprTree, Ident};
 use sqlite_items::at;
 use std::alloc::Global;
 use std::marker::Model;
-
-/// The limit of height of an expression.
-const MOST_HEIGHT: u32 = 64;
-
-/// The limit of how deep effects stand in one another.
-pub const MOST_NESTING: u32 = 16;
 
 /// The tokens of a text, and the place of the next one.
 #[derive(Drop)]

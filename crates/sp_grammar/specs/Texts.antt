@@ -1,6 +1,7 @@
 -- What the reader of a whole text answers, token by token: its tree, or a fault at the first token that no text within the
 -- limits goes on with. For the contract of each such reader, which names the form of its texts.
 use Rattle.std.specs.Prelude.{◌≡◌, ◌≢◌, ◌⊎◌, ℕ, suc, ◌<◌, List, length, Option, None, Some, Result, MatchResult, slice_get}
+use Rattle.sp_text.specs.declared.limits.TheConstants.{MOST_EFFECT_NESTING, MOST_HEIGHT}
 use Rattle.sp_text.specs.declared.fault.Limit.{Limit}
 use Rattle.sp_text.specs.declared.fault.Span.{Span}
 use Rattle.sp_text.specs.declared.token.Token.{Token}
@@ -15,7 +16,7 @@ use Rattle.sp_grammar.specs.Within.{Limits, Budget, of_height, of_nesting, Keeps
 
 -- the limits of a text: the height of its expressions, and how deep its effects are nested
 abbrev pub most : Limits
-most = record { height = 64; nesting = 16 }
+most = record { height = MOST_HEIGHT; nesting = MOST_EFFECT_NESTING }
 
 -- the limit that a budget is
 abbrev pub quantity_of : Budget → Quantity

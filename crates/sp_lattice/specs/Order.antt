@@ -2,6 +2,7 @@
 -- that these determine. For each layer that compares levels or joins them.
 use Rattle.std.specs.Prelude.{◌≡◌, ℕ, ◌+◌, ◌*◌, ◌<◌, ◌≤◌, ◌&&◌, ◌||◌, not, Bool, false, List, IsTrue, length, nat_lt, slice_index_or, unwrap_or}
 use Rattle.std.specs.List.{find, list_all, range_with_len}
+use Rattle.sp_text.specs.declared.limits.TheConstants.{MOST_LEVELS}
 use Rattle.sp_lattice.specs.Bounds.{IsPartialOrder, IsLeastUpper, IsGreatestLower}
 
 -- the table has a row for each level x, which says for each level y whether x is below y
@@ -49,7 +50,7 @@ top_level o = unwrap_or (find (λ z. list_all (λ w. is_below o w z) (levels o))
 -- and the two ends are its ends
 pub record IsLatticeOrder (o : Order) : Type 0 where
   pub some : 0 < o.count
-  pub few : o.count ≤ 256
+  pub few : o.count ≤ MOST_LEVELS
   pub square : length o.table ≡ o.count * o.count
   pub partial : IsPartialOrder o.count (IsBelow o)
   pub lubs : (x y : ℕ) → x < o.count → y < o.count → IsLeastUpper o.count (IsBelow o) x y (join o x y)

@@ -1,5 +1,6 @@
 -- Why a declaration of levels is refused, for its callers, who report the refusal.
 use Rattle.std.specs.Prelude.{◌≡◌, ℕ, ◌*◌, ◌^◌, ◌-◌, ◌<◌, ◌≤◌, ◌⊎◌, List, min}
+use Rattle.sp_text.specs.declared.limits.TheConstants.{MOST_LEVELS}
 use Rattle.sp_lattice.specs.Bounds.{IsPartialOrder, IsLeastUpper, IsGreatestLower, EachHasLub}
 use Rattle.sp_lattice.specs.Closure.{IsOrdered}
 use Rattle.sp_lattice.specs.declared.decl.LatticeFault.{LatticeFault}
@@ -28,19 +29,19 @@ HasNoGlb count R x y = (z : ℕ) → ¬ IsGreatestLower count R x y z
 
 -- what a refusal says of a declaration of this count and these pairs
 abbrev pub IsRefused : ℕ → List (ℕ × ℕ) → LatticeFault → Type 0
-IsRefused count pairs (TooManyLevels n) = (256 < count) × (n ≡ count)
+IsRefused count pairs (TooManyLevels n) = (MOST_LEVELS < count) × (n ≡ count)
 IsRefused count pairs Empty = count ≡ 0
-IsRefused count pairs (Cycle x y) = (count ≤ 256) × IsFirstPair count (IsCycle (IsOrdered pairs)) x y
+IsRefused count pairs (Cycle x y) = (count ≤ MOST_LEVELS) × IsFirstPair count (IsCycle (IsOrdered pairs)) x y
 IsRefused count pairs (NoLub x y) =
-    (count ≤ 256) × IsPartialOrder count (IsOrdered pairs) × IsFirstPair count (HasNoLub count (IsOrdered pairs)) x y
+    (count ≤ MOST_LEVELS) × IsPartialOrder count (IsOrdered pairs) × IsFirstPair count (HasNoLub count (IsOrdered pairs)) x y
 IsRefused count pairs (NoGlb x y) =
-    (count ≤ 256) × IsPartialOrder count (IsOrdered pairs) × EachHasLub count (IsOrdered pairs)
+    (count ≤ MOST_LEVELS) × IsPartialOrder count (IsOrdered pairs) × EachHasLub count (IsOrdered pairs)
     × IsFirstPair count (HasNoGlb count (IsOrdered pairs)) x y
 IsRefused count pairs Memory = Unit {0}
 
 -- what a refusal says of a product of a chain and categories
 abbrev pub IsProductRefused : ℕ → ℕ → LatticeFault → Type 0
 IsProductRefused chain categories (TooManyLevels n) =
-    (256 < chain * 2 ^ categories) × (n ≡ min (chain * 2 ^ categories) (2 ^ 32 - 1))
-IsProductRefused chain categories Memory = chain * 2 ^ categories ≤ 256
+    (MOST_LEVELS < chain * 2 ^ categories) × (n ≡ min (chain * 2 ^ categories) (2 ^ 32 - 1))
+IsProductRefused chain categories Memory = chain * 2 ^ categories ≤ MOST_LEVELS
 IsProductRefused chain categories fault = ⊥

@@ -5,11 +5,8 @@ ghost use Rattle.sp_lattice.specs.Closure.{AreLevels, IsOrdered};
 ghost use Rattle.sp_lattice.specs.Product.{IsProductBelow, IsSubset};
 ghost use Rattle.sp_lattice.specs.Refusal.{IsProductRefused};
 
-use sp_text::{Memory, Sequence};
+use sp_text::{MOST_LEVELS, Memory, Sequence};
 use std::alloc::Global;
-
-/// The most levels that a lattice may have.
-pub const MAX_LEVELS: u32 = 256;
 
 /// Levels, numbered from 0, and pairs of them of which the first is declared to be below the second.
 #[derive(Debug, Drop)]
@@ -48,7 +45,7 @@ impl LatticeDecl {
         ensures refused { IfErr result (IsProductRefused chain categories) }
     {
         let count = product_count(chain, categories);
-        if count > MAX_LEVELS {
+        if count > MOST_LEVELS {
             return Err(LatticeFault::TooManyLevels(count));
         }
         let below = product_pairs(alloc, count, categories).map_err(|_| LatticeFault::Memory)?;
@@ -70,7 +67,7 @@ fn product_count(chain: u32, categories: u32) -> u32
 /// The pairs of the product's order.
 fn product_pairs(alloc: Global, count: u32, categories: u32) -> Result<Vec<(u32, u32)>, Memory>
     requires some { 0 < count }
-    requires few { count ≤ 256 }
+    requires few { count ≤ MOST_LEVELS }
     requires categories { categories ≤ 8 }
     ensures levels { IfOk result (λ pairs. AreLevels count pairs.items) }
     ensures sound { IfOk result (λ pairs. (x y : ℕ) → Contains pairs.items (x, y) → IsProductBelow categories x y) }

@@ -5,8 +5,8 @@ ghost use Rattle.sp_lattice.specs.Order.{is_below, join, meet, bottom_level, top
 ghost use Rattle.sp_lattice.specs.Refusal.{IsRefused};
 
 use crate::table::{BoundFault, closure, first_cycle, flipped, greatest, least_uppers, place};
-use crate::{LatticeDecl, LatticeFault, MAX_LEVELS};
-use sp_text::Memory;
+use crate::{LatticeDecl, LatticeFault};
+use sp_text::{MOST_LEVELS, Memory};
 use std::alloc::Global;
 use std::marker::Model;
 
@@ -45,10 +45,10 @@ impl Lattice {
         ensures refused { IfErr result (IsRefused decl.now.count decl.now.below) }
 
         // A lattice of 1 to 256 levels is refused for want of memory alone.
-        ensures accepted { 1 ≤ decl.now.count → decl.now.count ≤ 256
+        ensures accepted { 1 ≤ decl.now.count → decl.now.count ≤ MOST_LEVELS
             → IsLattice decl.now.count (IsOrdered decl.now.below) → IfErr result (λ fault. fault ≡ LatticeFault.Memory) }
     {
-        if decl.count > MAX_LEVELS {
+        if decl.count > MOST_LEVELS {
             return Err(LatticeFault::TooManyLevels(decl.count));
         }
         if decl.count == 0 {

@@ -6,7 +6,7 @@ mod lattice;
 mod laws;
 mod table;
 
-pub use decl::{LatticeDecl, LatticeFault, MAX_LEVELS};
+pub use decl::{LatticeDecl, LatticeFault};
 pub use lattice::Lattice;
 pub use laws::{one_order, product_is_lattice, product_numbers};
 

@@ -3,6 +3,7 @@
 ghost use Rattle.std.specs.Prelude.{◌≡◌, ◌==◌, ℕ, ◌+◌, ◌*◌, ◌<◌, ◌≤◌, ◌&&◌, ◌||◌, ◌↔◌, ◌⊎◌, Some, true, false, IfOk, IfErr, IfSome, IsNone, IsTrue, MatchOption, MatchResult, length};
 ghost use Rattle.std.specs.List.{Contains};
 ghost use Rattle.std.specs.Option.{ForSome};
+ghost use Rattle.sp_text.specs.declared.limits.TheConstants.{MOST_LEVELS};
 ghost use Rattle.sp_lattice.specs.Bounds.{IsPartialOrder, IsLeastUpper};
 ghost use Rattle.sp_lattice.specs.Closure.{AreLevels, IsOrdered, Path};
 ghost use Rattle.sp_lattice.specs.Refusal.{IsFirstPair, IsCycle, HasNoLub};
@@ -30,7 +31,7 @@ pub fn place(count: u16, x: u16, y: u16) -> usize
 
 /// The reflexive and transitive closure of the pairs.
 pub fn closure(alloc: Global, count: u16, pairs: &[(u32, u32)]) -> Result<Vec<bool>, Memory>
-    requires few { count ≤ 256 }
+    requires few { count ≤ MOST_LEVELS }
     requires levels { AreLevels count pairs.now }
     ensures square { IfOk result (λ table. length table.items ≡ count * count) }
     ensures order { IfOk result (λ table. (x y : ℕ) → x < count → y < count
@@ -170,7 +171,7 @@ pub fn first_cycle(table: &[bool], count: u16) -> Option<(u16, u16)>
 /// The least upper bound of each two levels, in an order.
 pub fn least_uppers(alloc: Global, table: &[bool], count: u16) -> Result<Vec<u16>, BoundFault>
     requires square { length table.now ≡ count * count }
-    requires few { count ≤ 256 }
+    requires few { count ≤ MOST_LEVELS }
     requires partial { IsPartialOrder count (IsRelated count table.now) }
     ensures ok { IfOk result (λ bounds. AreLubs count table.now bounds.items) }
     ensures missing { IfErr result (IsMissing count table.now) }

@@ -2,6 +2,7 @@
 -- contract, and for the readers of token lists above it.
 use Rattle.std.specs.Prelude.{◌≡◌, ℕ, pos, ◌≤ℤ◌, ◌≤◌, List, [], ◌∷◌, length, Option, Some, None, filter_map, All}
 use Rattle.std.specs.Option.{option_map}
+use Rattle.sp_text.specs.declared.limits.TheConstants.{MOST_TOKENS}
 use Rattle.sp_text.specs.declared.token.Token.{Token}
 use Rattle.sp_text.specs.declared.token.TokenKind.{TokenKind}
 use Rattle.sp_text.specs.declared.token.TokenKind.TheVariants as kind
@@ -13,7 +14,7 @@ greatest_number = 9223372036854775807
 
 -- the greatest number of tokens of a text
 abbrev pub most_tokens : ℕ
-most_tokens = 200000
+most_tokens = MOST_TOKENS
 
 -- a piece and its place
 pub record Placed : Type 0 where

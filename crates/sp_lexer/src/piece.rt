@@ -1,4 +1,5 @@
 ghost use Rattle.std.specs.Prelude.{◌≡◌, ◌<◌, ◌≤◌, ◌^◌, ◌+◌, length, slice_index, IfOk, IsTrue, MatchOption, MatchResult};
+ghost use Rattle.sp_text.specs.declared.limits.TheConstants.{MOST_CERTIFICATE_BYTES};
 ghost use Rattle.sp_text.specs.Classes.{digit_byte, letter_byte, space_byte};
 ghost use Rattle.sp_text.specs.declared.token.Symbol.{Symbol};
 ghost use Rattle.sp_lexer.specs.Pieces.{OpensComment};
@@ -33,7 +34,7 @@ pub struct Scanned {
 /// A bad byte, a comment without an end or a number too large.
 pub fn next_piece(text: &[u8], place: usize) -> Result<Scanned, Malformed>
     requires inside { place < length text.now }
-    requires size { length text.now ≤ 67108864 }
+    requires size { length text.now ≤ MOST_CERTIFICATE_BYTES }
     ensures scanned { MatchResult result (IsScanned text.now place) (IsMalformed text.now place) }
     ensures onwards { IfOk result (λ s. place < s.end) }
     ensures within { IfOk result (λ s. s.end ≤ length text.now) }
@@ -79,7 +80,7 @@ fn scan_word(text: &[u8], place: usize) -> Scanned
 /// The number that stands at `place`.
 fn scan_number(text: &[u8], place: usize) -> Result<Scanned, Malformed>
     requires inside { place < length text.now }
-    requires size { length text.now ≤ 67108864 }
+    requires size { length text.now ≤ MOST_CERTIFICATE_BYTES }
     requires digit { IsTrue (digit_byte (slice_index text.now place)) }
     ensures scanned { MatchResult result (IsScanned text.now place) (IsMalformed text.now place) }
     ensures onwards { IfOk result (λ s. place < s.end) }
@@ -100,7 +101,7 @@ fn scan_number(text: &[u8], place: usize) -> Result<Scanned, Malformed>
 
 /// The comment that begins at `place`.
 fn scan_comment(text: &[u8], place: usize) -> Result<Scanned, Malformed>
-    requires size { length text.now ≤ 67108864 }
+    requires size { length text.now ≤ MOST_CERTIFICATE_BYTES }
     requires opens { OpensComment text.now place }
     ensures scanned { MatchResult result (IsScanned text.now place) (IsMalformed text.now place) }
     ensures onwards { IfOk result (λ s. place < s.end) }
@@ -118,7 +119,7 @@ fn scan_comment(text: &[u8], place: usize) -> Result<Scanned, Malformed>
 /// The symbol that stands at `place`, where no other piece does.
 fn scan_symbol(text: &[u8], place: usize) -> Result<Scanned, Malformed>
     requires inside { place < length text.now }
-    requires size { length text.now ≤ 67108864 }
+    requires size { length text.now ≤ MOST_CERTIFICATE_BYTES }
     requires other { IsOther text.now place }
     ensures scanned { MatchResult result (IsScanned text.now place) (IsMalformed text.now place) }
     ensures onwards { IfOk result (λ s. place < s.end) }

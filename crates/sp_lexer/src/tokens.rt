@@ -1,4 +1,5 @@
 ghost use Rattle.std.specs.Prelude.{◌≡◌, ◌≤◌, ◌<◌, ◌⊎◌, All, IfErr, IfOk, List, MatchResult, OnOk, length};
+ghost use Rattle.sp_text.specs.declared.limits.TheConstants.{MOST_CERTIFICATE_BYTES};
 ghost use Rattle.sp_text.specs.declared.token.Token.{Token};
 ghost use Rattle.sp_text.specs.declared.fault.TextFault.{TextFault};
 ghost use Rattle.sp_lexer.specs.Tokens.{HasTokens, IsTokens, IsUnsigned};
@@ -11,7 +12,7 @@ use sp_text::{Limit, Memory, Name, Quantity, TextFault, Token, TokenKind};
 use std::alloc::Global;
 
 /// The greatest number of tokens of a text.
-const MOST_TOKENS: usize = 200_000;
+const MOST_TOKENS: usize = sp_text::MOST_TOKENS as usize;
 
 /// The tokens of the text.
 ///
@@ -19,7 +20,7 @@ const MOST_TOKENS: usize = 200_000;
 /// The first fault from the left: a bad byte, a comment without an end, a number too large, or the token after the
 /// 200,000th. `Memory` where the tokens can't be kept.
 pub fn lex(alloc: Global, text: &[u8]) -> Result<Vec<Token>, TextFault>
-    requires { length text.now ≤ 67108864 }
+    requires { length text.now ≤ MOST_CERTIFICATE_BYTES }
     ensures ok { IfOk result (λ tokens. IsTokens text.now tokens.items) }
     ensures err { IfErr result (λ f. (f ≡ fault.Memory) ⊎ IsFirstFault text.now f) }
 
@@ -48,7 +49,7 @@ fn add_token(
     place: usize,
     piece: &Scanned,
 ) -> Result<(), TextFault>
-    requires size { length text.now ≤ 67108864 }
+    requires size { length text.now ≤ MOST_CERTIFICATE_BYTES }
     requires before { HasTokens text.now tokens.old.items place }
     requires here { IsScanned text.now place piece.now }
     ensures ok { OnOk result (HasTokens text.now tokens.new.items piece.now.end) }

@@ -10,8 +10,8 @@ ghost use Rattle.sp_parser.specs.Modules.{bound_line, effects_line, forall_effec
 use crate::statements::statement;
 use sp_cursor::lines::{begins_expression, formal};
 use sp_cursor::marks::{COLON, ELSE, END_FORALL, END_IF, FORALL, IF, SEMICOLON, THEN};
-use sp_cursor::{MOST_NESTING, Tokens, many};
-use sp_text::{Sequence, TextFault};
+use sp_cursor::{Tokens, many};
+use sp_text::{MOST_EFFECT_NESTING, Sequence, TextFault};
 use sp_tree::{EffectTree, FormalTree};
 use sqlite_items::Items;
 use std::alloc::Global;
@@ -113,7 +113,7 @@ fn bound(alloc: Global, tokens: &mut Tokens<'_>) -> Result<Sequence<FormalTree>,
 fn outer_effect(alloc: Global, tokens: &mut Tokens<'_>) -> Result<EffectTree, TextFault>
     ensures { Reads (read_in nested_effects most.nesting again tokens.old) result tokens.new }
 {
-    effect(alloc, tokens, MOST_NESTING)
+    effect(alloc, tokens, MOST_EFFECT_NESTING)
 }
 
 /// The effects of a function.

@@ -1,5 +1,6 @@
 -- The nodes that a pool holds, in the order of their numbers. For the layers that number the terms of a formula.
 use Rattle.std.specs.Prelude.{◌≡◌, ℕ, ◌<◌, ◌≤◌, ◌⊎◌, ◌++◌, ◌∷◌, [], Bool, true, false, List, length, replicate, slice_get, slice_index_or, Some}
+use Rattle.sp_text.specs.declared.limits.TheConstants.{MOST_TERMS}
 use Rattle.sp_values.specs.declared.value.Value.TheVariants.{Truth}
 use Rattle.sp_pool.specs.declared.node.TermId.{TermId}
 use Rattle.sp_pool.specs.declared.node.Node.{Node}
@@ -40,4 +41,4 @@ pub record IsPool (nodes : List Node) : Type 0 where
   pub apart : (i j : ℕ) (n : Node) → HasNode nodes i n → HasNode nodes j n → i ≡ j
   pub ordered : (i : ℕ) (n : Node) → HasNode nodes i n → IsNode i n
   pub eight : (i : ℕ) (n : Node) → HasNode nodes i n → length n.args ≡ 8
-  pub few : length nodes ≤ 512
+  pub few : length nodes ≤ MOST_TERMS

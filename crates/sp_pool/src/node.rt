@@ -3,9 +3,6 @@ ghost use Rattle.sp_pool.specs.Nodes.{truth_node};
 
 use sp_values::{Op, Value};
 
-/// The most nodes of a pool.
-pub const MOST_NODES: u32 = 512;
-
 /// A term's number in its pool.
 #[derive(Clone, Copy, Debug, PartialEq, Eq)]
 pub struct TermId(pub u16);

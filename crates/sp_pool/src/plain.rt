@@ -1,8 +1,8 @@
 ghost use Rattle.std.specs.Prelude.{◌≡◌, ◌↔◌, ◌<◌, ◌≤◌, ◌++◌, ◌∷◌, [], length, take, true, false, IfOk, OnOk, OnErr, IfSome, IfNone, IsTrue};
 ghost use Rattle.sp_pool.specs.Nodes.{HasNode, IsHeld, IsNode, IsPool, truth_node};
 
-use crate::node::{Full, Head, MOST_NODES, Mark, Node, TermId, truth};
-use sp_text::Memory;
+use crate::node::{Full, Head, Mark, Node, TermId, truth};
+use sp_text::{MOST_TERMS, Memory};
 use std::alloc::Global;
 use std::marker::Model;
 
@@ -65,7 +65,7 @@ impl PlainPool {
     pub fn new(alloc: Global) -> Result<PlainPool, Memory>
         ensures { IfOk result (λ pool. pool ≡ truth_node true ∷ truth_node false ∷ []) }
     {
-        let mut nodes = Vec::with_capacity(alloc, MOST_NODES as usize)?;
+        let mut nodes = Vec::with_capacity(alloc, MOST_TERMS as usize)?;
         nodes.push(truth(true))?;
         nodes.push(truth(false))?;
         Ok(PlainPool { nodes })
@@ -79,14 +79,14 @@ impl PlainPool {
         requires { IsNode (length self.old) n }
         ensures here { IfOk result (λ t. HasNode self.new t.0 n) }
         ensures held { IsHeld self.old n → self.new ≡ self.old }
-        ensures next { ¬ IsHeld self.old n → OnOk result ((length self.old < 512) × (self.new ≡ self.old ++ n ∷ [])) }
-        ensures full { OnErr result ((length self.old ≡ 512) × (¬ IsHeld self.old n) × (self.new ≡ self.old)) }
+        ensures next { ¬ IsHeld self.old n → OnOk result ((length self.old < MOST_TERMS) × (self.new ≡ self.old ++ n ∷ [])) }
+        ensures full { OnErr result ((length self.old ≡ MOST_TERMS) × (¬ IsHeld self.old n) × (self.new ≡ self.old)) }
     {
         if let Some(i) = position(&self.nodes, &n) {
             return Ok(TermId(i as u16));
         }
         let count = self.nodes.len();
-        if count == MOST_NODES as usize {
+        if count == MOST_TERMS as usize {
             return Err(Full);
         }
         if self.nodes.push(n).is_err() {

@@ -6,10 +6,10 @@ ghost use Rattle.sp_pool.specs.Nodes.{HasNode, IsGrown, IsHeld, IsNode, IsPool, 
 ghost use Rattle.sp_pool.specs.Trees.{AllStand, KeepsTrees, Stands, Trees, tree};
 
 use crate::index::{Lookup, empty, look_up, release};
-use crate::node::{Full, MOST_NODES, Mark, Node, TermId, truth};
+use crate::node::{Full, Mark, Node, TermId, truth};
 use crate::region::Region;
 use crate::spelling::{Spelling, is_tidy, node_of};
-use sp_text::Memory;
+use sp_text::{MOST_TERMS, Memory};
 use std::alloc::Global;
 use std::marker::Model;
 
@@ -81,7 +81,7 @@ impl Pool {
         ensures nodes { IfOk result (λ pool. pool ≡ truth_node true ∷ truth_node false ∷ []) }
         ensures pool { IfOk result IsPool }
     {
-        let mut region = Region::new(alloc, ROOM, MOST_NODES)?;
+        let mut region = Region::new(alloc, ROOM, MOST_TERMS)?;
         let mut index = empty(alloc)?;
         intern_truths(&mut region, &mut index);
         Ok(Pool { region, index })
@@ -95,8 +95,8 @@ impl Pool {
         requires { IsNode (length self.old) n }
         ensures here { IfOk result (λ t. HasNode self.new t.0 n) }
         ensures held { IsHeld self.old n → self.new ≡ self.old }
-        ensures next { ¬ IsHeld self.old n → OnOk result ((length self.old < 512) × (self.new ≡ self.old ++ n ∷ [])) }
-        ensures full { OnErr result ((length self.old ≡ 512) × (¬ IsHeld self.old n) × (self.new ≡ self.old)) }
+        ensures next { ¬ IsHeld self.old n → OnOk result ((length self.old < MOST_TERMS) × (self.new ≡ self.old ++ n ∷ [])) }
+        ensures full { OnErr result ((length self.old ≡ MOST_TERMS) × (¬ IsHeld self.old n) × (self.new ≡ self.old)) }
         ensures grown { IsGrown self.old n self.new }
         ensures trees { KeepsTrees (length self.old) self.old self.new }
         ensures tree { IfOk result (λ t. (ts : Trees) → AllStand self.old n 0 ts → Stands self.new t.0 (tree n.head ts)) }

@@ -1,5 +1,5 @@
 -- The state after the changes of all ranks is what the changes say of a new state, and there is no other such state.
-use Rattle.std.proofs.Common.{◌≡◌, refl, sym, ◌∙◌, ap, subst, arith, ℕ, zero, suc, ◌<◌, ◌≤◌, Bool, true, false, ◌==◌, List, [], ◌∷◌, ◌++◌, Option, Some, nat_lt, inl, inr}
+use Rattle.std.proofs.Common.{◌≡◌, refl, sym, ◌∙◌, ap, subst, arith, ℕ, zero, suc, ◌<◌, ◌≤◌, Bool, true, false, ◌==◌, List, [], ◌∷◌, ◌++◌, Some, nat_lt, inl, inr}
 use Rattle.std.specs.Prelude.{if◌then◌else◌, slice_get, ◌↔◌}
 use Rattle.std.specs.List.{Contains}
 use mathlib.Core.Path.{fun_ext}
@@ -85,13 +85,16 @@ module _ (m : Machine) (s : Store) (i : Invocation) (as' : List GuardedChange) (
       where
         by : (v : Store) × IsBeforeRank (suc k) t v → (u : Store) × (v : Store) × IsAround k u v
         by (v, b) =
-            let h = b.stage in
-            (h.0, v, record {
-              before = h.1;
-              made = h.2;
-              lower = λ g x r. sym (other_rank k h.0 v h.2 g x (λ e. absurd (omega (arith, r, e)))) ∙ b.made g x (omega (arith, r));
-              own = b.made;
-            })
+            let h = b.stage in (
+              h.0,
+              v,
+              record {
+                before = h.1;
+                made = h.2;
+                lower = λ g x r. sym (other_rank k h.0 v h.2 g x (λ e. absurd (omega (arith, r, e)))) ∙ b.made g x (omega (arith, r));
+                own = b.made;
+              },
+            )
 
     -- over the state before its rank a change names and gives what it does over the new state
     settled : (k : ℕ) (u v : Store) → IsAround k u v → (a : GuardedChange) → Contains as' a → change_rank as' a.fun ≡ k → (cs : List Value) → (target m s u i a cs ≡ target m s t i a cs) × (given m s u i a cs ≡ given m s t i a cs)

@@ -1,5 +1,5 @@
 -- The state after the changes of all ranks is what the changes say of a new state, and there is no other such state.
-use Rattle.std.proofs.Common.{◌≡◌, refl, sym, ◌∙◌, ap, subst, arith, ℕ, zero, suc, ◌<◌, ◌≤◌, Bool, true, false, ◌==◌, List, [], ◌∷◌, ◌++◌, Option, Some, nat_lt, inl, inr}
+use Rattle.std.proofs.Common.{◌≡◌, refl, sym, ◌∙◌, ap, subst, arith, ℕ, zero, suc, ◌<◌, ◌≤◌, Bool, true, false, ◌==◌, List, [], ◌∷◌, ◌++◌, Some, nat_lt, inl, inr}
 use Rattle.std.specs.Prelude.{if◌then◌else◌, slice_get, ◌↔◌}
 use Rattle.std.specs.List.{Contains}
 use mathlib.Core.Path.{fun_ext}

@@ -8,7 +8,6 @@ use Rattle.sp_values.specs.declared.value.Ty.{Ty}
 use Rattle.sp_values.specs.declared.place.Invocation.{Invocation}
 use Rattle.sp_values.specs.Domains.{are_values, is_value}
 use Rattle.sp_values.specs.Identity.{same_values, same_values-Decides}
-use Rattle.sp_core.specs.declared.expr.Expr.{Expr}
 use Rattle.sp_core.specs.declared.function.Answer.{Answer}
 use Rattle.sp_core.specs.declared.function.Answer.TheVariants as answer
 use Rattle.sp_core.specs.declared.function.Function.{Function}
@@ -20,7 +19,7 @@ use Rattle.sp_core.specs.Machine.{AreBindings, Changes, IsEntry, IsInvocation, I
 use Rattle.sp_core.specs.Parts.{Parts, signature}
 use Rattle.sp_core.specs.Ranks.{of_rank, rank_count}
 use Rattle.sp_core.specs.States.{put_at}
-use Rattle.sp_core.specs.Typing.{answer_type, primitive_type, read_type}
+use Rattle.sp_core.specs.Typing.{answer_type, read_type}
 use Rattle.sp_core.specs.Values.{Store, look, value_over}
 use Rattle.sp_core.specs.WellFormed.{IsKind, IsWellFormed}
 use Rattle.sp_core.proofs.Bindings.{are_values-append, arguments_typed, bindings_typed}

@@ -22,7 +22,7 @@ use Rattle.sp_driver.specs.declared.small.texts.SmallScript.{SmallScript}
 use Rattle.sp_driver.specs.declared.status.Status.{Status}
 use Rattle.sp_driver.specs.declared.status.Status.TheVariants as status
 use Rattle.sp_driver.specs.declared.system.System.{System}
-use Rattle.sp_driver.proofs.Grammars.{refused_once, unread}
+use Rattle.sp_grammar.proofs.OneAnswer.{refused_once, unread}
 use Rattle.sp_driver.proofs.SmallRuns.{printed_once}
 use Rattle.sp_driver.proofs.SmallTrees.{IsUnambiguous, instance_unambiguous, interface_unambiguous, module_unambiguous, script_unambiguous}
 

@@ -1,25 +1,32 @@
 -- The specification of clearances is well-formed, and what may be asked of it and of its instances.
-use Rattle.std.proofs.Common.{◌≡◌, refl, sym, subst, arith, ℕ, zero, suc, ◌<◌, ◌≤◌, List, [], ◌∷◌, length, Some}
-use Rattle.std.specs.Prelude.{IsTrue, codes, slice_get}
+use Rattle.std.proofs.Common.{◌≡◌, refl, sym, subst, arith, true, ℕ, zero, suc, ◌<◌, ◌≤◌, List, [], ◌∷◌, length, Some}
+use Rattle.std.specs.Prelude.{IsTrue, codes, pos, slice_get}
 use Rattle.sp_lattice.specs.Order.{IsLatticeOrder, Order}
 use Rattle.sp_values.specs.declared.value.Ty.TheVariants as ty
 use Rattle.sp_values.specs.declared.value.Value.{Value}
 use Rattle.sp_values.specs.declared.value.Value.TheVariants as value
 use Rattle.sp_core.specs.declared.expr.Expr.{Expr}
+use Rattle.sp_core.specs.declared.expr.Expr.TheVariants as expr
 use Rattle.sp_core.specs.declared.function.Assertion.{Assertion}
 use Rattle.sp_core.specs.declared.function.Function.{Function}
 use Rattle.sp_core.specs.declared.function.Param.{Param}
 use Rattle.sp_core.specs.declared.function.TypeInfo.{TypeInfo}
 use Rattle.sp_core.specs.Instances.{InstanceParts, filling_of, machine_of}
-use Rattle.sp_core.specs.Machine.{IsInvocation}
+use Rattle.sp_core.specs.Machine.{IsInvocation, IsState, initial_state}
 use Rattle.sp_core.specs.Parts.{Parts, signature}
+use Rattle.sp_core.specs.States.{put_at}
 use Rattle.sp_core.specs.Tree.{Look, none, tree}
 use Rattle.sp_core.specs.Typing.{HasType, Signature, is_finite, is_type}
+use Rattle.sp_core.specs.Values.{Store}
 use Rattle.sp_core.specs.WellFormed.{AreFormals, IsAssertion, IsEarlier, IsEarlierAs, IsExpression, IsFunction, IsKind, IsLevel, IsParam, IsWellFormed, members_of, names_of}
-use Rattle.sp_eval.specs.Conditions.{IsRead}
-use Rattle.sp_eval_examples.specs.Clearances.{AreOverLowHigh, IsLowHigh, base, base_is_below, base_level, clearance, clearances, clr, colour_type, colours, each_is_red, eq_function, functions, le_function, low, max_function, none_is_unknown, one_user, pool_function, seen_function, user, user_type}
-use Rattle.sp_eval_examples.proofs.NameLemmas.{AreDifferent-by, some_same}
-use Rattle.sp_eval_examples.proofs.Parts.{All-one, All-two, function_fine, low_fine, no_formals, tree_lemmas}
+use Rattle.sp_eval.specs.Conditions.{IsRead, IsTypedIn}
+use Rattle.sp_core.proofs.Levels.{initial_typed}
+use Rattle.sp_core.proofs.StatesTyped.{put_typed}
+use Rattle.sp_core.proofs.TreeLemmas.{tree_lemmas}
+use Rattle.sp_examples.specs.Common.{AreOverLowHigh, IsLowHigh, look_at, low}
+use Rattle.sp_examples.proofs.NameLemmas.{AreDifferent-by, some_same}
+use Rattle.sp_examples.proofs.Parts.{All-one, All-two, function_fine, low_fine, no_formals}
+use Rattle.sp_eval_examples.specs.Clearances.{base, base_is_below, base_level, clearance, clearances, clr, colour_type, colours, each_is_red, eq_function, functions, le_function, max_function, none_is_unknown, one_user, pool_function, seen_function, user, user_type}
 
 module _ (o : Order) where
   abbrev sg : Signature
@@ -93,11 +100,11 @@ module _ (o : Order) where
   }
 
   functions_fine : o.count ≡ 2 → (g : ℕ) (f : Function) → slice_get functions g ≡ Some f → IsFunction sg g f
-  functions_fine two zero f e = subst (IsFunction sg 0) (some_same e) (function_fine sg 0 (codes "max") [] max_function.kind low (no_formals sg) max_kind (simp tree_lemmas (omega arith)) (low_fine sg two []))
-  functions_fine two (suc zero) f e = subst (IsFunction sg 1) (some_same e) (function_fine sg 1 (codes "le") [] le_function.kind low (no_formals sg) le_kind (simp tree_lemmas (omega arith)) (low_fine sg two []))
-  functions_fine two (suc (suc zero)) f e = subst (IsFunction sg 2) (some_same e) (function_fine sg 2 (codes "eq") [] eq_function.kind low (no_formals sg) eq_kind (simp tree_lemmas (omega arith)) (low_fine sg two []))
-  functions_fine two (suc (suc (suc zero))) f e = subst (IsFunction sg 3) (some_same e) (function_fine sg 3 (codes "pool") [] pool_function.kind base_level (no_formals sg) pool_kind (simp tree_lemmas (omega arith)) base_fine)
-  functions_fine two (suc (suc (suc (suc zero)))) f e = subst (IsFunction sg 4) (some_same e) (function_fine sg 4 (codes "seen") (user ∷ []) seen_function.kind clearance user_formals seen_kind (simp tree_lemmas (omega arith)) clearance_fine)
+  functions_fine two zero f e = subst (IsFunction sg 0) (some_same e) (function_fine sg 0 true (codes "max") [] max_function.kind low (no_formals sg) max_kind (simp tree_lemmas (omega arith)) (low_fine sg two []))
+  functions_fine two (suc zero) f e = subst (IsFunction sg 1) (some_same e) (function_fine sg 1 true (codes "le") [] le_function.kind low (no_formals sg) le_kind (simp tree_lemmas (omega arith)) (low_fine sg two []))
+  functions_fine two (suc (suc zero)) f e = subst (IsFunction sg 2) (some_same e) (function_fine sg 2 true (codes "eq") [] eq_function.kind low (no_formals sg) eq_kind (simp tree_lemmas (omega arith)) (low_fine sg two []))
+  functions_fine two (suc (suc (suc zero))) f e = subst (IsFunction sg 3) (some_same e) (function_fine sg 3 true (codes "pool") [] pool_function.kind base_level (no_formals sg) pool_kind (simp tree_lemmas (omega arith)) base_fine)
+  functions_fine two (suc (suc (suc (suc zero)))) f e = subst (IsFunction sg 4) (some_same e) (function_fine sg 4 true (codes "seen") (user ∷ []) seen_function.kind clearance user_formals seen_kind (simp tree_lemmas (omega arith)) clearance_fine)
   functions_fine two (suc (suc (suc (suc (suc g))))) f e = cc
 
   assertion_fine : IsAssertion sg base_is_below
@@ -160,3 +167,18 @@ module _ (p : Parts) (a : AreOverLowHigh clearances p) where
 
   pub none_is_unknown_fine : (e : Expr) → e ≡ none_is_unknown → IsExpression (signature p) [] (tree e) ty.Boolean
   none_is_unknown_fine e f = sentence none_is_unknown e f (simp tree_lemmas (record { typed = (refl, refl, refl, (refl, (ty.Member 0, refl, refl, refl))); few_nodes = omega arith; few_quantifiers = omega arith; no_new = (tt, tt) }))
+
+-- the pool with a value is a state, and its old and new value are typed
+pub pool_state : (p : Parts) → AreOverLowHigh clearances p → (i : InstanceParts) (s : Store) → s ≡ put_at 3 [] (value.Int (pos 7)) initial_state → IsState (machine_of p (filling_of i)) s
+pool_state p a i s e =
+    subst (λ q. IsState (machine_of q (filling_of i)) s) (sym a.parts) (subst (IsState (machine_of (clearances p.lattice) (filling_of i))) (sym e)
+    (put_typed (machine_of (clearances p.lattice) (filling_of i)) initial_state 3 [] (value.Int (pos 7)) (initial_typed (machine_of (clearances p.lattice) (filling_of i)))
+    (pool_function, ty.Integer, expr.Const (value.Int (pos 0)), record { function = refl; primitive = refl; arguments = refl }, refl)))
+
+pub new_pool_typed : (p : Parts) → AreOverLowHigh clearances p → (i : InstanceParts) (e : Expr) → e ≡ expr.New 3 [] → IsTypedIn p i [] (tree e)
+new_pool_typed p a i e q =
+    subst (λ e. IsTypedIn p i [] (tree e)) (sym q) (subst (λ r. IsTypedIn r i [] (tree (expr.New 3 []))) (sym a.parts) (simp tree_lemmas ([], ty.Integer, record { values = refl; typed = (pool_function, refl, refl, tt); room = omega arith })))
+
+pub old_pool_typed : (p : Parts) → AreOverLowHigh clearances p → (i : InstanceParts) (e : Expr) → e ≡ look_at 3 → IsTypedIn p i [] (tree e)
+old_pool_typed p a i e q =
+    subst (λ e. IsTypedIn p i [] (tree e)) (sym q) (subst (λ r. IsTypedIn r i [] (tree (look_at 3))) (sym a.parts) (simp tree_lemmas ([], ty.Integer, record { values = refl; typed = (pool_function, refl, refl, tt); room = omega arith })))

@@ -1,4 +1,2 @@
-mod NameLemmas
-mod Parts
-mod CountingLemmas
 mod ClearanceLemmas
+mod CountingLemmas

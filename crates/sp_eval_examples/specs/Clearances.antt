@@ -1,8 +1,7 @@
 -- A small specification of users with clearances, with functions on numbers out of range and an enumeration, instances of
 -- it, and sentences over it; for tests alone.
-use Rattle.std.specs.Prelude.{◌≡◌, ℕ, pos, true, false, List, [], ◌∷◌, Some, None, codes}
-use Rattle.sp_lattice.specs.Closure.{IsOrdered}
-use Rattle.sp_lattice.specs.Order.{IsOrderOf, Order}
+use Rattle.std.specs.Prelude.{ℕ, pos, false, List, [], ◌∷◌, Some, codes}
+use Rattle.sp_lattice.specs.Order.{Order}
 use Rattle.sp_values.specs.declared.value.Op.TheVariants as op
 use Rattle.sp_values.specs.declared.value.Ty.{Ty}
 use Rattle.sp_values.specs.declared.value.Ty.TheVariants as ty
@@ -12,24 +11,13 @@ use Rattle.sp_core.specs.declared.expr.Expr.TheVariants as expr
 use Rattle.sp_core.specs.declared.function.Assertion.{Assertion}
 use Rattle.sp_core.specs.declared.function.Formal.{Formal}
 use Rattle.sp_core.specs.declared.function.Function.{Function}
-use Rattle.sp_core.specs.declared.function.Kind.{Kind}
 use Rattle.sp_core.specs.declared.function.Kind.TheVariants as kind
 use Rattle.sp_core.specs.declared.function.Param.{Param}
 use Rattle.sp_core.specs.declared.function.TypeInfo.{TypeInfo}
 use Rattle.sp_core.specs.declared.instance.Table.{Table}
 use Rattle.sp_core.specs.Instances.{InstanceParts}
 use Rattle.sp_core.specs.Parts.{Parts}
-
--- Orders
-
--- an order of two levels, of which the first is below the second
-abbrev pub IsLowHigh : Order → Type 0
-IsLowHigh = IsOrderOf 2 (IsOrdered ((0, 1) ∷ []))
-
--- the parts are those of a specification over such an order
-pub record AreOverLowHigh (specification : Order → Parts) (p : Parts) : Type 0 where
-  pub parts : p ≡ specification p.lattice
-  pub order : IsLowHigh p.lattice
+use Rattle.sp_examples.specs.Common.{designator, function, look_at, low}
 
 -- Types and parameters
 
@@ -39,7 +27,7 @@ colours = codes "red" ∷ codes "blue" ∷ []
 
 -- users, a designator type, have number 0 among the types; colours, an enumeration, number 1
 abbrev pub user_type : TypeInfo
-user_type = record { name = codes "user"; members = None }
+user_type = designator (codes "user")
 
 abbrev pub colour_type : TypeInfo
 colour_type = record { name = codes "colour"; members = Some colours }
@@ -66,25 +54,6 @@ abbrev pub base_is_below : Assertion
 base_is_below = record { vars = user ∷ []; body = expr.Two op.LevelLe base_level clearance }
 
 -- Functions
-
--- a visible function without exceptions
-abbrev pub function : List ℕ → List Formal → Kind → Expr → Function
-function name formals k level = record {
-  name = name;
-  visible = true;
-  formals = formals;
-  exceptions = [];
-  kind = k;
-  level = level;
-}
-
--- the level LOW
-abbrev pub low : Expr
-low = expr.Const (value.Level 0)
-
--- the function of a number, at no arguments
-abbrev pub look_at : ℕ → Expr
-look_at g = expr.Look g []
 
 -- the greatest number and 1, which is out of range
 abbrev pub max_function : Function

@@ -1,2 +1,1 @@
 pub mod Clearances
-pub mod Counting

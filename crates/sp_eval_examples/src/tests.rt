@@ -1,22 +1,24 @@
-ghost use Rattle.std.specs.Prelude.{◌≡◌, ◌≤◌, [], ◌∷◌, IfOk, codes, map};
+ghost use Rattle.std.specs.Prelude.{◌≡◌, ◌≤◌, [], ◌∷◌, IfOk, codes, map, pos};
 ghost use Rattle.std.specs.List.{range_with_len};
 ghost use Rattle.sp_values.specs.declared.value.Ty.TheVariants as ty;
 ghost use Rattle.sp_values.specs.declared.value.Value.TheVariants as value;
-ghost use Rattle.sp_lattice.specs.Order.{IsLatticeOrder};
-ghost use Rattle.sp_core.specs.Instances.{IsInstanceOf};
+ghost use Rattle.sp_core.specs.Instances.{IsInstanceOf, filling_of, machine_of};
+ghost use Rattle.sp_core.specs.Machine.{IsState, initial_state};
 ghost use Rattle.sp_core.specs.Parts.{signature};
+ghost use Rattle.sp_core.specs.States.{entry_of, put_at};
 ghost use Rattle.sp_core.specs.Tree.{tree};
 ghost use Rattle.sp_core.specs.WellFormed.{IsExpression};
 ghost use Rattle.sp_core.specs.declared.expr.Expr.TheVariants as expr;
-ghost use Rattle.sp_eval.specs.Conditions.{IsRead};
-ghost use Rattle.sp_eval_examples.specs.Clearances.{AreOverLowHigh, IsLowHigh, all_low, base, base_is_below, base_is_high, base_level, clearance, clearances, clr, colour_type, colours, each_is_red, each_is_true, each_user_is_false, eq_function, every, everywhere, excluded_middle, first_is_high, function, functions, high_for_first, instance_of, le_function, look_at, low, low_is_least, max_function, nobody, none_is_unknown, one_user, pool_function, seen_function, user, user_type};
-ghost use Rattle.sp_eval_examples.specs.Counting.{count_function, count_functions, count_kind, counting};
+ghost use Rattle.sp_eval.specs.Conditions.{IsRead, IsTypedIn};
+ghost use Rattle.sp_examples.specs.Common.{AreOverLowHigh, function};
+ghost use Rattle.sp_eval_examples.specs.Clearances.{all_low, base, base_is_below, base_is_high, base_level, clearance, clearances, clr, colour_type, colours, each_is_red, each_is_true, each_user_is_false, eq_function, every, everywhere, excluded_middle, first_is_high, functions, high_for_first, instance_of, le_function, low_is_least, max_function, nobody, none_is_unknown, one_user, pool_function, seen_function, user_type};
+ghost use Rattle.sp_examples.specs.Counting.{count_function, count_functions, count_kind, counting};
 
-use sp_core::{
-    Assertion, Expr, Formal, Function, Instance, Kind, Param, Spec, State, Table, TypeInfo,
+use sp_core::{Assertion, Expr, Function, Instance, Kind, Param, Spec, State, Table, TypeInfo};
+use sp_eval::{
+    AssertionFalse, Env, InitialState, Overlay, admissible, eval, eval_over, level, look,
 };
-use sp_eval::{AssertionFalse, Env, admissible, eval, level, look};
-use sp_lattice::{Lattice, LatticeDecl};
+use sp_examples::{designator, function, level_param, look_at, low_high, one_formal, two_names};
 use sp_text::{Memory, Name, Sequence};
 use sp_values::{Args, Invocation, Op, Place, Ty, Value};
 use sqlite_items::{Boxed, Items};
@@ -61,12 +63,6 @@ fn every(alloc: Global, ty: Ty, body: Expr) -> Result<Expr, Memory>
     Ok(Expr::Every(0, ty, Boxed::new(alloc, body)?))
 }
 
-fn look_at(alloc: Global, g: u16) -> Expr
-    ensures { result ≡ look_at g }
-{
-    Expr::Look(g, Items::new(alloc))
-}
-
 fn base_level(alloc: Global) -> Expr
     ensures { result ≡ base_level }
 {
@@ -83,35 +79,13 @@ fn clearance(alloc: Global) -> Result<Expr, Memory>
 
 // The parts of the specification of users with clearances
 
-fn user(alloc: Global) -> Result<Sequence<Formal>, Memory>
-    ensures { IfOk result (λ formals. formals ≡ user ∷ []) }
-{
-    let name = Name::new(alloc, b"u")?;
-    let mut formals = Vec::new(alloc);
-    formals.push(Formal { name, ty: USER })?;
-    Ok(Sequence::new(formals))
-}
-
-fn two_names(alloc: Global, first: &[u8], second: &[u8]) -> Result<Vec<Name>, Memory>
-    ensures { IfOk result (λ names. names.items ≡ first.now ∷ second.now ∷ []) }
-{
-    let mut names = Vec::new(alloc);
-    names.push(Name::new(alloc, first)?)?;
-    names.push(Name::new(alloc, second)?)?;
-    Ok(names)
-}
-
 fn types(alloc: Global) -> Result<Vec<TypeInfo>, Memory>
     ensures { IfOk result (λ types. types.items ≡ user_type ∷ colour_type ∷ []) }
 {
-    let user = Name::new(alloc, b"user")?;
     let colour = Name::new(alloc, b"colour")?;
     let colours = Sequence::new(two_names(alloc, b"red", b"blue")?);
     let mut types = Vec::new(alloc);
-    types.push(TypeInfo {
-        name: user,
-        members: None,
-    })?;
+    types.push(designator(alloc, b"user")?)?;
     types.push(TypeInfo {
         name: colour,
         members: Some(colours),
@@ -119,20 +93,10 @@ fn types(alloc: Global) -> Result<Vec<TypeInfo>, Memory>
     Ok(types)
 }
 
-fn level_param(alloc: Global, name: &[u8], formals: Sequence<Formal>) -> Result<Param, Memory>
-    ensures { IfOk result (λ param. param ≡ record { name = name.now; formals = formals; ty = ty.Level }) }
-{
-    Ok(Param {
-        name: Name::new(alloc, name)?,
-        formals,
-        ty: Ty::Level,
-    })
-}
-
 fn params(alloc: Global) -> Result<Vec<Param>, Memory>
     ensures { IfOk result (λ params. params.items ≡ clr ∷ base ∷ []) }
 {
-    let clr = level_param(alloc, b"clr", user(alloc)?)?;
+    let clr = level_param(alloc, b"clr", one_formal(alloc, b"u", USER)?)?;
     let base = level_param(alloc, b"base", Sequence::new(Vec::new(alloc)))?;
     let mut params = Vec::new(alloc);
     params.push(clr)?;
@@ -143,30 +107,11 @@ fn params(alloc: Global) -> Result<Vec<Param>, Memory>
 fn assertions(alloc: Global) -> Result<Vec<Assertion>, Memory>
     ensures { IfOk result (λ assertions. assertions.items ≡ base_is_below ∷ []) }
 {
-    let vars = user(alloc)?;
+    let vars = one_formal(alloc, b"u", USER)?;
     let body = two(alloc, Op::LevelLe, base_level(alloc), clearance(alloc)?)?;
     let mut assertions = Vec::new(alloc);
     assertions.push(Assertion { vars, body })?;
     Ok(assertions)
-}
-
-fn function(
-    alloc: Global,
-    name: &[u8],
-    formals: Sequence<Formal>,
-    kind: Kind,
-    level: Expr,
-) -> Result<Function, Memory>
-    ensures { IfOk result (λ f. f ≡ function name.now formals kind level) }
-{
-    Ok(Function {
-        name: Name::new(alloc, name)?,
-        visible: true,
-        formals,
-        exceptions: Sequence::new(Vec::new(alloc)),
-        kind,
-        level,
-    })
 }
 
 fn plain(alloc: Global, name: &[u8], kind: Kind, level: Expr) -> Result<Function, Memory>
@@ -211,7 +156,7 @@ fn pool_function(alloc: Global) -> Result<Function, Memory>
 fn seen_function(alloc: Global) -> Result<Function, Memory>
     ensures { IfOk result (λ f. f ≡ seen_function) }
 {
-    let formals = user(alloc)?;
+    let formals = one_formal(alloc, b"u", USER)?;
     let level = clearance(alloc)?;
     let kind = Kind::Derived(Ty::Integer, look_at(alloc, POOL));
     function(alloc, b"seen", formals, kind, level)
@@ -227,14 +172,6 @@ fn functions(alloc: Global) -> Result<Vec<Function>, Memory>
     all.push(pool_function(alloc)?)?;
     all.push(seen_function(alloc)?)?;
     Ok(all)
-}
-
-fn low_high(alloc: Global) -> Result<Lattice, Memory>
-    ensures order { IfOk result IsLowHigh }
-    ensures lattice { IfOk result IsLatticeOrder }
-{
-    let below = Sequence::new(vec![in alloc; (0, 1)]?);
-    Lattice::declare(alloc, &LatticeDecl { count: 2, below }).map_err(|_| Memory)
 }
 
 fn clearances(alloc: Global) -> Result<Spec, Memory>
@@ -478,6 +415,37 @@ fn read(alloc: Global, spec: &Spec, inst: &Instance, fun: u16, args: Args) -> Va
     look(spec, inst, &state, &Place { fun, args })
 }
 
+// A change that gives the pool the value 7.
+fn pool_change(alloc: Global) -> Result<State, Memory>
+    ensures { IfOk result (λ s. entry_of s.entries ≡ put_at 3 [] (value.Int (pos 7)) initial_state) }
+{
+    let mut changes = State::new(alloc);
+    changes.reserve(1)?;
+    let args = Args::new(&[]);
+    changes.put(&Place { fun: POOL, args }, Value::Int(7));
+    Ok(changes)
+}
+
+fn new_pool(alloc: Global) -> Expr
+    ensures { result ≡ expr.New 3 [] }
+{
+    Expr::New(POOL, Items::new(alloc))
+}
+
+// The value of an expression over the initial state, and the changes laid over it.
+fn over_changes(spec: &Spec, inst: &Instance, changes: &State, e: &Expr) -> Value
+    requires instance { IsInstanceOf spec.now inst.now }
+    requires changes { IsState (machine_of spec.now (filling_of inst.now)) (entry_of changes.now.entries) }
+    requires typed { IsTypedIn spec.now inst.now [] (tree e.now) }
+{
+    let new = Overlay {
+        changes,
+        state: &InitialState,
+    };
+    let none = Env::new(&Args::new(&[]));
+    eval_over(spec, inst, &InitialState, &new, &none, e)
+}
+
 fn first_user() -> Args
     ensures { result ≡ value.Member 0 0 ∷ [] }
 {
@@ -628,5 +596,17 @@ fn a_chain_of_sixteen_derivations_counts_to_sixteen(rt: HostRuntime) -> Result<(
         read(rt.alloc(), &spec, &inst, 16, Args::new(&[])),
         Value::Int(16)
     );
+    Ok(())
+}
+
+#[test]
+fn a_new_value_is_read_from_the_changes_and_an_old_one_is_not(rt: HostRuntime) -> Result<(), Fail> {
+    let spec = clearances(rt.alloc())?;
+    let inst = nobody(rt.alloc(), &spec)?;
+    let changes = pool_change(rt.alloc())?;
+    let new = new_pool(rt.alloc());
+    assert_eq!(rt; over_changes(&spec, &inst, &changes, &new), Value::Int(7));
+    let old = look_at(rt.alloc(), POOL);
+    assert_eq!(rt; over_changes(&spec, &inst, &changes, &old), Value::Int(0));
     Ok(())
 }

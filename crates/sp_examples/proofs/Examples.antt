@@ -21,13 +21,14 @@ use Rattle.sp_core.specs.declared.function.Kind.TheVariants as kind
 use Rattle.sp_core.specs.declared.function.Answer.{Answer}
 use Rattle.sp_core.specs.declared.function.Answer.TheVariants as answer
 use Rattle.sp_core.specs.Effects.{GuardedChange, changes_in, effect_trees}
-use Rattle.sp_core.specs.Machine.{Answers, AreBindings, Changes, IsHeld, IsTrueChange, Machine, Moves, Run, Step, given, initial_state, target}
+use Rattle.sp_core.specs.Machine.{AreBindings, Changes, ChangesByRank, IsHeld, IsTrueChange, Machine, Run, Step, StepOf, given, initial_state, target}
 use Rattle.sp_core.specs.Security.{Alike, IsLow, purge, seen}
 use Rattle.sp_core.specs.States.{put_at}
 use Rattle.sp_core.specs.Tree.{Tree, Const, Var, Two, Look, Every, none, more}
 use Rattle.sp_core.specs.Values.{Reads, Store, World, look, value_of}
-use Rattle.sp_examples.proofs.PlainChanges.{Puts, contains_none, no_changes, one_case, plain, put_other, two_cases, two_changes}
-use Rattle.sp_examples.proofs.TreeLemmas.{tree_lemmas, effect_lemmas}
+use Rattle.sp_examples.specs.Common.{int}
+use Rattle.sp_examples.proofs.PlainChanges.{Puts, contains_none, one_case, plain, put_other, two_cases, two_changes}
+use Rattle.sp_core.proofs.TreeLemmas.{tree_lemmas, effect_lemmas}
 
 -- Values
 
@@ -81,10 +82,6 @@ function formals k = record { name = codes "f"; visible = true; formals = formal
 abbrev call : ℕ → List Value → Invocation
 call g v = record { fun = g; args = v }
 
--- a number as a value, and as an expression
-abbrev int : ℕ → Value
-int n = value.Int (pos n)
-
 abbrev truth : Bool → Expr
 truth b = expr.Const (value.Truth b)
 
@@ -94,7 +91,7 @@ refusing = record { world = world 0; functions = record (function [] (kind.Opera
 
 -- the first true exception is the answer, and the state stays
 first_exception_answers : (s : Store) → Step refusing s (call 0 []) (answer.Exception 0) s
-first_exception_answers s = (record (function [] (kind.Operation [])) { exceptions = (codes "first", truth true) ∷ (codes "second", truth true) ∷ [] }, record { function = refl; answers = simp tree_lemmas refl; moves = refl })
+first_exception_answers s = (record (function [] (kind.Operation [])) { exceptions = (codes "first", truth true) ∷ (codes "second", truth true) ∷ [] }, record { function = refl; outcome = simp tree_lemmas (refl, refl) })
 
 -- `a` starts at 1 and `b` at 2; `swap` gives each the other's value
 abbrev swap_effects : List Effect
@@ -112,25 +109,24 @@ swap_step = (
   function [] (kind.Operation swap_effects),
   record {
     function = refl;
-    answers = refl;
-    moves = subst (λ as'. Changes swapping initial_state initial_state (call 2 []) as' swapped) (sym changes) (two_changes swapping initial_state (call 2 []) 0 none (Look 1 none) [] (int 2) 1 none (Look 0 none) [] (int 1) first second (λ e. omega (arith, e.0)));
+    outcome = (subst (λ as'. ChangesByRank swapping initial_state (call 2 []) as' swapped) (sym changes) (initial_state, refl, two_changes swapping initial_state initial_state (call 2 []) 0 none (Look 1 none) [] (int 2) 1 none (Look 0 none) [] (int 1) first second (λ e. omega (arith, e.0))), refl);
   },
 )
   where
     changes : changes_in (effect_trees (kind.Operation swap_effects)) ≡ plain 0 none (Look 1 none) ∷ plain 1 none (Look 0 none) ∷ []
     changes = simp (effect_lemmas, tree_lemmas) refl
 
-    first : Puts swapping initial_state (call 2 []) 0 none (Look 1 none) [] (int 2)
+    first : Puts swapping initial_state initial_state (call 2 []) 0 none (Look 1 none) [] (int 2)
     first = record { at = refl; gives = simp tree_lemmas refl }
 
-    second : Puts swapping initial_state (call 2 []) 1 none (Look 0 none) [] (int 1)
+    second : Puts swapping initial_state initial_state (call 2 []) 1 none (Look 0 none) [] (int 1)
     second = record { at = refl; gives = simp tree_lemmas refl }
 
 swap_run : Run swapping initial_state (call 2 [] ∷ call 0 [] ∷ call 1 [] ∷ []) (answer.Done ∷ answer.Value (int 2) ∷ answer.Value (int 1) ∷ []) swapped
 swap_run = (swapped, swap_step, (swapped, reads 0 (int 1) (int 2) refl refl, (swapped, reads 1 (int 2) (int 1) refl refl, refl)))
   where
     reads : (g : ℕ) (start x : Value) → slice_get swapping.functions g ≡ Some (function [] (kind.Primitive ty.Integer (expr.Const start))) → look swapping.world swapping.functions swapped g [] ≡ x → Step swapping swapped (call g []) (answer.Value x) swapped
-    reads g start x f v = (function [] (kind.Primitive ty.Integer (expr.Const start)), record { function = f; answers = ap answer.Value (sym v); moves = no_changes swapping swapped (call g []) })
+    reads g start x f v = (function [] (kind.Primitive ty.Integer (expr.Const start)), record { function = f; outcome = (refl, ap answer.Value (sym v)) })
 
 -- `p` and `q` start TRUE, and `op` gives `g` the value 1 where p() and 2 where q()
 abbrev clash_effects : List Effect
@@ -152,7 +148,7 @@ clashing = record {
 
 -- its two true changes give one place two values: there is no step
 clash_has_no_step : (a : Answer) (t : Store) → Step clashing initial_state (call 3 []) a t → ⊥
-clash_has_no_step a t h = by h.0 a (some_same h.1.function) h.1.answers h.1.moves
+clash_has_no_step a t h = let same = some_same h.1.function in let own = subst (StepOf clashing initial_state (call 3 []) a t) (sym same) h.1 in clash own.outcome.0
   where
     guarded : ℕ → ℕ → GuardedChange
     guarded g n = record { vars = []; guards = Look g none ∷ []; fun = 2; args = none; value = Const (int n) }
@@ -169,16 +165,14 @@ clash_has_no_step a t h = by h.0 a (some_same h.1.function) h.1.answers h.1.move
     second : IsTrueChange clashing initial_state (call 3 []) (guarded 0 1 ∷ guarded 1 2 ∷ []) (guarded 1 2) []
     second = record { of = (1, omega arith, refl); bindings = tt; held = All-cons (IsHeld clashing initial_state []) (Look 1 none) [] (simp tree_lemmas refl) (All-nil (IsHeld clashing initial_state [])) }
 
-    clash : Changes clashing initial_state initial_state (call 3 []) (changes_in (effect_trees (kind.Operation clash_effects))) t → ⊥
+    clash : ChangesByRank clashing initial_state (call 3 []) (changes_in (effect_trees (kind.Operation clash_effects))) t → ⊥
     clash c =
-        let d : Changes clashing initial_state initial_state (call 3 []) (guarded 0 1 ∷ guarded 1 2 ∷ []) t = subst (λ as'. Changes clashing initial_state initial_state (call 3 []) as' t) changes c in
+        let made : ChangesByRank clashing initial_state (call 3 []) (guarded 0 1 ∷ guarded 1 2 ∷ []) t = subst (λ as'. ChangesByRank clashing initial_state (call 3 []) as' t) changes c in
+        let d : Changes clashing initial_state initial_state (call 3 []) (guarded 0 1 ∷ guarded 1 2 ∷ []) t = subst (λ v. Changes clashing initial_state v (call 3 []) (guarded 0 1 ∷ guarded 1 2 ∷ []) t) made.1 made.2 in
         let x : t 2 [] ≡ Some (int 1) = d.named (guarded 0 1) [] first in
         let y : t 2 [] ≡ Some (int 2) = d.named (guarded 1 2) [] second in
         let z : Some (int 1) ≡ Some (int 2) = sym x ∙ y in
         cc
-
-    by : (f : Function) (a : Answer) → function [] (kind.Operation clash_effects) ≡ f → Answers clashing initial_state (call 3 []) f a → Moves clashing initial_state (call 3 []) f a t → ⊥
-    by f a e = subst (λ (g : Function). Answers clashing initial_state (call 3 []) g a → Moves clashing initial_state (call 3 []) g a t → ⊥) e (λ r m. clash (subst (λ (b : Answer). Moves clashing initial_state (call 3 []) (function [] (kind.Operation clash_effects)) b t) r m))
 
 -- `fill(x)` gives each file's `data` the value x
 abbrev fill_effects : List Effect
@@ -205,11 +199,17 @@ fill_nothing s x = (
   function (number ∷ []) (kind.Operation fill_effects),
   record {
     function = refl;
-    answers = refl;
-    moves = subst (λ as'. Changes (filling 0) s s (call 1 (x ∷ [])) as' s) (sym fill_changes) (record {
-      named = λ a cs h. absurd (none_bound a (one_case fill_change a h.of) cs h.bindings);
-      others = λ g v n. refl;
-    });
+    outcome = (
+      subst (λ as'. ChangesByRank (filling 0) s (call 1 (x ∷ [])) as' s) (sym fill_changes) (
+        s,
+        refl,
+        record {
+          named = λ a cs h. absurd (none_bound a (one_case fill_change a h.of) cs h.bindings);
+          others = λ g v n. refl;
+        },
+      ),
+      refl,
+    );
   },
 )
   where
@@ -232,13 +232,19 @@ fill_both s x = (
   function (number ∷ []) (kind.Operation fill_effects),
   record {
     function = refl;
-    answers = refl;
-    moves = subst (λ as'. Changes (filling 2) s s (call 1 (x ∷ [])) as' (filled x s)) (sym fill_changes) (record {
-      named = λ a cs h. named a (one_case fill_change a h.of) cs h.bindings;
-      others = λ g v n.
-          put_other 0 (file_value 0 ∷ []) x (put_at 0 (file_value 1 ∷ []) x s) g v (λ e. n fill_change (file_value 0 ∷ []) (bound (file_value 0) (0, omega arith, refl)) e.0 e.1)
-          ∙ put_other 0 (file_value 1 ∷ []) x s g v (λ e. n fill_change (file_value 1 ∷ []) (bound (file_value 1) (1, omega arith, refl)) e.0 e.1);
-    });
+    outcome = (
+      subst (λ as'. ChangesByRank (filling 2) s (call 1 (x ∷ [])) as' (filled x s)) (sym fill_changes) (
+        s,
+        refl,
+        record {
+          named = λ a cs h. named a (one_case fill_change a h.of) cs h.bindings;
+          others = λ g v n.
+              put_other 0 (file_value 0 ∷ []) x (put_at 0 (file_value 1 ∷ []) x s) g v (λ e. n fill_change (file_value 0 ∷ []) (bound (file_value 0) (0, omega arith, refl)) e.0 e.1)
+              ∙ put_other 0 (file_value 1 ∷ []) x s g v (λ e. n fill_change (file_value 1 ∷ []) (bound (file_value 1) (1, omega arith, refl)) e.0 e.1);
+        },
+      ),
+      refl,
+    );
   },
 )
   where

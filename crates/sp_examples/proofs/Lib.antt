@@ -1,5 +1,9 @@
-pub mod TreeLemmas
-mod PlainChanges
+pub mod NameLemmas
+pub mod PlainChanges
+pub mod Parts
 mod Examples
-mod NameLemmas
-mod WorkedLemmas
+pub mod WorkedLemmas
+pub mod CountingLemmas
+mod LampLemmas
+mod StackLemmas
+mod SecurityLemmas

@@ -20,7 +20,8 @@ use Rattle.sp_core.specs.declared.function.TypeInfo.{TypeInfo}
 use Rattle.sp_core.specs.declared.function.Answer.TheVariants as answer
 use Rattle.sp_core.specs.declared.instance.Table.{Table}
 use Rattle.sp_core.specs.Instances.{IsAdmissible, IsAsserted, IsInstanceOf, IsTable, filling_of, machine_of, world_of}
-use Rattle.sp_core.specs.Machine.{Answers, AnswersBy, Changes, IsHeld, IsResult, Machine, Run, Step, first_exception, initial_state, types_of}
+use Rattle.sp_core.specs.Machine.{ChangesByRank, IsHeld, IsResult, Machine, Outcome, Run, Step, first_exception, initial_state, types_of}
+use Rattle.sp_core.specs.Ranks.{change_reads}
 use Rattle.sp_core.specs.Effects.{GuardedResult, changes_in, effect_trees, results_in}
 use Rattle.sp_core.specs.States.{put_at}
 use Rattle.sp_core.specs.Values.{Store, look}
@@ -29,17 +30,13 @@ use Rattle.sp_core.specs.Parts.{Parts, signature}
 use Rattle.sp_core.specs.Tree.{Look, Var, none, more, tree}
 use Rattle.sp_core.specs.Typing.{Signature, is_type}
 use Rattle.sp_core.specs.WellFormed.{AreDifferent, AreFormals, IsAssertion, IsExpression, IsFunction, IsInjective, IsKind, IsLevel, IsParam, IsWellFormed, members_of, names_of}
-use Rattle.sp_examples.specs.WorkedFiles.{AreOverLowHigh, data_function, designator, file, file_functions, file_params, file_types, files_with, high_at, IsLowHigh, leaky, level_at, level_param, files, no_write, not_below, number, read_function, small, user, write_function}
+use Rattle.sp_examples.specs.Common.{AreOverLowHigh, IsLowHigh, designator}
+use Rattle.sp_examples.specs.WorkedFiles.{data_function, file, file_functions, file_params, file_types, files_with, high_at, leaky, level_at, level_param, files, no_write, not_below, number, read_function, small, user, write_function}
 use Rattle.sp_examples.proofs.NameLemmas.{AreDifferent-by, some_same}
-use Rattle.sp_examples.proofs.PlainChanges.{Puts, no_changes, one_change, plain}
-use Rattle.sp_examples.proofs.TreeLemmas.{effect_lemmas, tree_lemmas}
-
--- what each of two, or of three, items has
-pub All-two : {X : Type 0} (P : X → Type 0) (a b : X) → P a → P b → All P (a ∷ b ∷ [])
-All-two P a b p q = All-cons P a (b ∷ []) p (All-cons P b [] q (All-nil P))
-
-pub All-one : {X : Type 0} (P : X → Type 0) (a : X) → P a → All P (a ∷ [])
-All-one P a p = All-cons P a [] p (All-nil P)
+use Rattle.sp_examples.proofs.Parts.{All-one, All-two}
+use Rattle.sp_examples.proofs.PlainChanges.{Puts, one_change, plain}
+use Rattle.sp_core.proofs.RankLemmas.{no_new_no_cycle}
+use Rattle.sp_core.proofs.TreeLemmas.{effect_lemmas, tree_lemmas}
 
 -- the signature of files with these exceptions of `write`
 abbrev signature_with : List (List ℕ × Expr) → Order → Signature
@@ -117,10 +114,11 @@ module _ (es : List (List ℕ × Expr)) (o : Order) where
     kind = simp (effect_lemmas, tree_lemmas) (record {
       type = refl;
       effects = record {
-        effects = ((ty.Integer, refl, record { typed = (data_function, refl, refl, (refl, tt)); few_nodes = omega arith; few_quantifiers = omega arith; no_new = (tt, (tt, tt)) }), tt);
+        effects = ((ty.Integer, refl, record { typed = (data_function, refl, refl, (refl, tt)); few_nodes = omega arith; few_quantifiers = omega arith }), tt);
         few_bound = omega arith;
         few_changes = omega arith;
         injective = λ k d l. absurd (omega (arith, l));
+        no_cycle = no_new_no_cycle [] (All-nil (λ a. change_reads a ≡ []));
       };
       one_result = (1, 0, refl, refl, refl);
     });
@@ -137,17 +135,15 @@ module _ (es : List (List ℕ × Expr)) (o : Order) where
           ty.Integer,
           refl,
           refl,
-          (
-            record { typed = refl; few_nodes = omega arith; few_quantifiers = omega arith; no_new = tt },
-            tt,
-          ),
-          record { typed = refl; few_nodes = omega arith; few_quantifiers = omega arith; no_new = tt },
+          (record { typed = refl; few_nodes = omega arith; few_quantifiers = omega arith }, tt),
+          record { typed = refl; few_nodes = omega arith; few_quantifiers = omega arith },
         ),
         tt,
       );
       few_bound = omega arith;
       few_changes = omega arith;
-      injective = All-one (IsInjective 3) (record { vars = []; guards = []; fun = 0; args = more (Var 1) none; value = Var 2 }) (λ j l. absurd (omega (arith, l)));
+      injective = All-one (IsInjective 3) (plain 0 (more (Var 1) none) (Var 2)) (λ j l. absurd (omega (arith, l)));
+      no_cycle = no_new_no_cycle (plain 0 (more (Var 1) none) (Var 2) ∷ []) (All-one (λ a. change_reads a ≡ []) (plain 0 (more (Var 1) none) (Var 2)) refl);
     };
     no_result = (0, 0, refl, refl, refl);
   })
@@ -252,10 +248,10 @@ from_high x z (step {y = y} r p) e = absurd (declared r.0 r.1 r.2)
     declared (suc k) l f = omega (arith, l)
 
 -- LOW is below itself, and HIGH isn't below it
-low_below : (o : Order) → IsLowHigh o → is_below o 0 0 ≡ true
+pub low_below : (o : Order) → IsLowHigh o → is_below o 0 0 ≡ true
 low_below o h = h.below 0 0 (omega arith) (omega arith) here
 
-high_not_below : (o : Order) → IsLowHigh o → is_below o 1 0 ≡ false
+pub high_not_below : (o : Order) → IsLowHigh o → is_below o 1 0 ≡ false
 high_not_below o h = by (is_below o 1 0) (λ e. h.only_below 1 0 (omega arith) (omega arith) e)
   where
     by : (b : Bool) → (b ≡ true → Path (IsDeclared declared_pairs) 1 0) → b ≡ false
@@ -278,13 +274,15 @@ abbrev read_result : GuardedResult
 read_result = record { guards = []; value = Look 0 (more (Var 1) none) }
 
 -- bob reads the value that `data(memo)` has
-read_step : (es : List (List ℕ × Expr)) (name : List ℕ) (o : Order) → IsLowHigh o → (s : Store) (v : Value) → look (machine es name o).world (machine es name o).functions s 0 (value.Member 1 0 ∷ []) ≡ v → Step (machine es name o) s reads (answer.Value v) s
+pub read_step : (es : List (List ℕ × Expr)) (name : List ℕ) (o : Order) → IsLowHigh o → (s : Store) (v : Value) → look (machine es name o).world (machine es name o).functions s 0 (value.Member 1 0 ∷ []) ≡ v → Step (machine es name o) s reads (answer.Value v) s
 read_step es name o h s v e = (
   read_function,
   record {
     function = refl;
-    answers = subst (λ n. AnswersBy (machine es name o) s reads read_function n (answer.Value v)) (sym none_true) (v, subst (λ rs. IsResult (machine es name o) s reads rs v) (sym results) (0, read_result, record { there = refl; held = All-nil (IsHeld (machine es name o) s reads.args); only = only; value = sym e }), refl);
-    moves = subst (λ as'. Changes (machine es name o) s s reads as' s) (sym changes) (no_changes (machine es name o) s reads);
+    outcome = subst (λ n. Outcome (machine es name o) s reads read_function n (answer.Value v) s) (sym none_true) (
+      subst (λ as'. ChangesByRank (machine es name o) s reads as' s) (sym changes) refl,
+      (v, subst (λ rs. IsResult (machine es name o) s s reads rs v) (sym results) (0, read_result, record { there = refl; held = All-nil (IsHeld (machine es name o) s reads.args); only = only; value = sym e }), refl),
+    );
   },
 )
   where
@@ -303,10 +301,13 @@ read_step es name o h s v e = (
 
 -- with its exceptions `write` is refused to alice, since HIGH isn't below LOW, and bob reads the initial value
 pub files_answers : (o : Order) → IsLowHigh o → Run (machine_of (files o) (filling_of small)) initial_state (writes ∷ reads ∷ []) (answer.Exception 0 ∷ answer.Value (value.Int (pos 0)) ∷ []) initial_state
-files_answers o h = (initial_state, (write_function no_write, record { function = refl; answers = answers; moves = refl }), (initial_state, read_step no_write (codes "files") o h initial_state (value.Int (pos 0)) (simp tree_lemmas refl), refl))
+files_answers o h = (initial_state, (write_function no_write, record { function = refl; outcome = outcome }), (initial_state, read_step no_write (codes "files") o h initial_state (value.Int (pos 0)) (simp tree_lemmas refl), refl))
   where
-    answers : Answers (machine no_write (codes "files") o) initial_state writes (write_function no_write) (answer.Exception 0)
-    answers = simp (tree_lemmas, high_not_below o h) refl
+    first_true : first_exception (machine no_write (codes "files") o) initial_state writes (write_function no_write) ≡ Some 0
+    first_true = simp (tree_lemmas, high_not_below o h) refl
+
+    outcome : Outcome (machine no_write (codes "files") o) initial_state writes (write_function no_write) (first_exception (machine no_write (codes "files") o) initial_state writes (write_function no_write)) (answer.Exception 0) initial_state
+    outcome = subst (λ n. Outcome (machine no_write (codes "files") o) initial_state writes (write_function no_write) n (answer.Exception 0) initial_state) (sym first_true) (refl, refl)
 
 -- the state after alice wrote
 abbrev pub written : Store
@@ -314,16 +315,16 @@ written = put_at 0 (value.Member 1 0 ∷ []) (value.Int (pos 7)) initial_state
 
 -- without them alice writes, and bob reads what she wrote
 pub leaky_answers : (o : Order) → IsLowHigh o → Run (machine_of (leaky o) (filling_of small)) initial_state (writes ∷ reads ∷ []) (answer.Done ∷ answer.Value (value.Int (pos 7)) ∷ []) written
-leaky_answers o h = (written, (write_function [], record { function = refl; answers = refl; moves = moves }), (written, read_step [] (codes "leaky") o h written (value.Int (pos 7)) refl, refl))
+leaky_answers o h = (written, (write_function [], record { function = refl; outcome = (made, refl) }), (written, read_step [] (codes "leaky") o h written (value.Int (pos 7)) refl, refl))
   where
     changes : changes_in (effect_trees (write_function []).kind) ≡ plain 0 (more (Var 1) none) (Var 2) ∷ []
     changes = simp (effect_lemmas, tree_lemmas) refl
 
-    puts : Puts (machine [] (codes "leaky") o) initial_state writes 0 (more (Var 1) none) (Var 2) (value.Member 1 0 ∷ []) (value.Int (pos 7))
+    puts : Puts (machine [] (codes "leaky") o) initial_state initial_state writes 0 (more (Var 1) none) (Var 2) (value.Member 1 0 ∷ []) (value.Int (pos 7))
     puts = record { at = refl; gives = refl }
 
-    moves : Changes (machine [] (codes "leaky") o) initial_state initial_state writes (changes_in (effect_trees (write_function []).kind)) written
-    moves = subst (λ as'. Changes (machine [] (codes "leaky") o) initial_state initial_state writes as' written) (sym changes) (one_change (machine [] (codes "leaky") o) initial_state writes 0 (more (Var 1) none) (Var 2) (value.Member 1 0 ∷ []) (value.Int (pos 7)) puts)
+    made : ChangesByRank (machine [] (codes "leaky") o) initial_state writes (changes_in (effect_trees (write_function []).kind)) written
+    made = subst (λ as'. ChangesByRank (machine [] (codes "leaky") o) initial_state writes as' written) (sym changes) (initial_state, refl, one_change (machine [] (codes "leaky") o) initial_state initial_state writes 0 (more (Var 1) none) (Var 2) (value.Member 1 0 ∷ []) (value.Int (pos 7)) puts)
 
 -- parts that are those of the files are well-formed
 pub files_assemble : (o : Order) (name : List ℕ) (levels : List (List ℕ)) (types : List TypeInfo) (params : List Param) (assertions : List Assertion) (functions : List Function) → IsLatticeOrder o → IsLowHigh o

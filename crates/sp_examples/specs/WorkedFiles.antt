@@ -1,8 +1,7 @@
 -- A small specification of files that users of two levels read and write, once as it should be and once without the
 -- exceptions of `write`, and an instance of it; for tests alone.
-use Rattle.std.specs.Prelude.{◌≡◌, ℕ, pos, true, false, List, [], ◌∷◌, None, codes}
-use Rattle.sp_lattice.specs.Closure.{IsOrdered}
-use Rattle.sp_lattice.specs.Order.{IsOrderOf, Order}
+use Rattle.std.specs.Prelude.{ℕ, pos, true, false, List, [], ◌∷◌, codes}
+use Rattle.sp_lattice.specs.Order.{Order}
 use Rattle.sp_values.specs.declared.value.Op.TheVariants as op
 use Rattle.sp_values.specs.declared.value.Ty.TheVariants as ty
 use Rattle.sp_values.specs.declared.value.Value.TheVariants as value
@@ -17,10 +16,7 @@ use Rattle.sp_core.specs.declared.function.TypeInfo.{TypeInfo}
 use Rattle.sp_core.specs.declared.instance.Table.{Table}
 use Rattle.sp_core.specs.Instances.{InstanceParts}
 use Rattle.sp_core.specs.Parts.{Parts}
-
--- a designator type
-abbrev pub designator : List ℕ → TypeInfo
-designator name = record { name = name; members = None }
+use Rattle.sp_examples.specs.Common.{designator}
 
 -- users have number 0 among the types, files number 1
 abbrev pub user : Formal
@@ -108,15 +104,6 @@ files = files_with no_write (codes "files")
 -- the specification without the exceptions of `write`
 abbrev pub leaky : Order → Parts
 leaky = files_with [] (codes "leaky")
-
--- an order of two levels, of which the first is below the second
-abbrev pub IsLowHigh : Order → Type 0
-IsLowHigh = IsOrderOf 2 (IsOrdered ((0, 1) ∷ []))
-
--- the parts are those of a specification over such an order
-pub record AreOverLowHigh (specification : Order → Parts) (p : Parts) : Type 0 where
-  pub parts : p ≡ specification p.lattice
-  pub order : IsLowHigh p.lattice
 
 -- a table that gives HIGH at one member of a type, and LOW at the others
 abbrev pub high_at : ℕ → ℕ → Table

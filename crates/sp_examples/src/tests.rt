@@ -1,11 +1,11 @@
 ghost use Rattle.std.specs.Prelude.{◌≡◌, [], ◌∷◌, IfOk, codes, map};
-ghost use Rattle.sp_lattice.specs.Order.{IsLatticeOrder};
-ghost use Rattle.sp_examples.specs.WorkedFiles.{AreOverLowHigh, IsLowHigh, data_function, designator, file, file_functions, file_params, file_types, files, high_at, level_at, level_param, no_write, not_below, number, read_function, small, user, write_function};
+ghost use Rattle.sp_examples.specs.Common.{AreOverLowHigh};
+ghost use Rattle.sp_examples.specs.WorkedFiles.{data_function, file, file_functions, file_params, file_types, files, high_at, level_at, no_write, not_below, number, read_function, small, user, write_function};
 
+use crate::{designator, formal, level_param, low_high, one_formal, two_names};
 use sp_core::{
     Effect, Expr, Formal, Function, Instance, Kind, Param, Spec, State, Table, TypeInfo,
 };
-use sp_lattice::{Lattice, LatticeDecl};
 use sp_text::{Memory, Name, Sequence};
 use sp_values::{Args, Op, Place, Ty, Value};
 use sqlite_items::{Boxed, Items};
@@ -56,23 +56,6 @@ fn not_below(alloc: Global, p: u16, j: u32, q: u16, k: u32) -> Result<Expr, Memo
     let high = Boxed::new(alloc, level_at(alloc, q, k)?)?;
     let below = Boxed::new(alloc, Expr::Two(Op::LevelLe, low, high))?;
     Ok(Expr::Not(below))
-}
-
-fn formal(alloc: Global, name: &[u8], ty: Ty) -> Result<Formal, Memory>
-    ensures { IfOk result (λ f. f ≡ record { name = name.now; ty = ty }) }
-{
-    Ok(Formal {
-        name: Name::new(alloc, name)?,
-        ty,
-    })
-}
-
-fn data_formals(alloc: Global) -> Result<Sequence<Formal>, Memory>
-    ensures { IfOk result (λ formals. formals ≡ file ∷ []) }
-{
-    let mut formals = Vec::new(alloc);
-    formals.push(formal(alloc, b"f", Ty::Member(FILE))?)?;
-    Ok(Sequence::new(formals))
 }
 
 fn read_formals(alloc: Global) -> Result<Sequence<Formal>, Memory>
@@ -129,7 +112,7 @@ fn data_function(alloc: Global) -> Result<Function, Memory>
     Ok(Function {
         name: Name::new(alloc, b"data")?,
         visible: false,
-        formals: data_formals(alloc)?,
+        formals: one_formal(alloc, b"f", Ty::Member(FILE))?,
         exceptions: Sequence::new(Vec::new(alloc)),
         kind: Kind::Primitive(Ty::Integer, Expr::Const(Value::Int(0))),
         level: level_at(alloc, 1, 0)?,
@@ -174,15 +157,6 @@ fn file_functions(alloc: Global) -> Result<Vec<Function>, Memory>
     Ok(functions)
 }
 
-fn designator(alloc: Global, name: &[u8]) -> Result<TypeInfo, Memory>
-    ensures { IfOk result (λ info. info ≡ designator name.now) }
-{
-    Ok(TypeInfo {
-        name: Name::new(alloc, name)?,
-        members: None,
-    })
-}
-
 fn file_types(alloc: Global) -> Result<Vec<TypeInfo>, Memory>
     ensures { IfOk result (λ types. types.items ≡ file_types) }
 {
@@ -192,47 +166,17 @@ fn file_types(alloc: Global) -> Result<Vec<TypeInfo>, Memory>
     Ok(types)
 }
 
-fn level_param(alloc: Global, name: &[u8], formal: Formal) -> Result<Param, Memory>
-    ensures { IfOk result (λ param. param ≡ level_param name.now formal) }
-{
-    let name = Name::new(alloc, name)?;
-    let mut formals = Vec::new(alloc);
-    formals.push(formal)?;
-    Ok(Param {
-        name,
-        formals: Sequence::new(formals),
-        ty: Ty::Level,
-    })
-}
-
 fn file_params(alloc: Global) -> Result<Vec<Param>, Memory>
     ensures { IfOk result (λ params. params.items ≡ file_params) }
 {
-    let user = formal(alloc, b"u", Ty::Member(USER))?;
+    let user = one_formal(alloc, b"u", Ty::Member(USER))?;
     let clr = level_param(alloc, b"clr", user)?;
-    let file = formal(alloc, b"f", Ty::Member(FILE))?;
+    let file = one_formal(alloc, b"f", Ty::Member(FILE))?;
     let cls = level_param(alloc, b"cls", file)?;
     let mut params = Vec::new(alloc);
     params.push(clr)?;
     params.push(cls)?;
     Ok(params)
-}
-
-fn low_high(alloc: Global) -> Result<Lattice, Memory>
-    ensures order { IfOk result IsLowHigh }
-    ensures lattice { IfOk result IsLatticeOrder }
-{
-    let below = Sequence::new(vec![in alloc; (0, 1)]?);
-    Lattice::declare(alloc, &LatticeDecl { count: 2, below }).map_err(|_| Memory)
-}
-
-fn two_names(alloc: Global, first: &[u8], second: &[u8]) -> Result<Vec<Name>, Memory>
-    ensures { IfOk result (λ names. names.items ≡ first.now ∷ second.now ∷ []) }
-{
-    let mut names = Vec::new(alloc);
-    names.push(Name::new(alloc, first)?)?;
-    names.push(Name::new(alloc, second)?)?;
-    Ok(names)
 }
 
 fn files(alloc: Global) -> Result<Spec, Memory>

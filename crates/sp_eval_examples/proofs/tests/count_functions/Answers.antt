@@ -1,4 +1,4 @@
-use Rattle.sp_eval_examples.proofs.CountingLemmas.{count_more}
+use Rattle.sp_examples.proofs.CountingLemmas.{count_more}
 use Rattle.sp_eval_examples.proofs.tests.count_functions.Goals as goal
 
 pub loop-k-preserved : goal.loop-k-preserved

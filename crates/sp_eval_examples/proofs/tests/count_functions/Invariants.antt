@@ -1,5 +1,5 @@
 use Rattle.std.proofs.Common.{◌≡◌}
-use Rattle.sp_eval_examples.specs.Counting.{count_functions}
+use Rattle.sp_examples.specs.Counting.{count_functions}
 use Rattle.sp_eval_examples.proofs.tests.count_functions.Given as goal
 
 abbrev pub invariant-loop-k : goal.invariant-loop-k

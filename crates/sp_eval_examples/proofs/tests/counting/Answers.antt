@@ -1,4 +1,4 @@
-use Rattle.sp_eval_examples.proofs.CountingLemmas.{counting_assemble}
+use Rattle.sp_examples.proofs.CountingLemmas.{counting_assemble}
 use Rattle.sp_eval_examples.proofs.tests.counting.Goals as goal
 
 pub assemble-requires : goal.assemble-requires

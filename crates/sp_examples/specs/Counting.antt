@@ -10,7 +10,7 @@ use Rattle.sp_core.specs.declared.function.Function.{Function}
 use Rattle.sp_core.specs.declared.function.Kind.{Kind}
 use Rattle.sp_core.specs.declared.function.Kind.TheVariants as kind
 use Rattle.sp_core.specs.Parts.{Parts}
-use Rattle.sp_eval_examples.specs.Clearances.{function, look_at, low}
+use Rattle.sp_examples.specs.Common.{function, look_at, low, over_low_high}
 
 -- the number 0 at first, and then the function before and 1
 abbrev pub count_kind : ℕ → Kind
@@ -25,14 +25,10 @@ count_function k = function ((97 + k) ∷ []) [] (count_kind k) low
 abbrev pub count_functions : ℕ → List Function
 count_functions n = map count_function (range_with_len 0 n)
 
--- the specification, over an order of the levels
+-- the specification of n functions, over an order of the levels
+abbrev pub counting_to : ℕ → Order → Parts
+counting_to n = over_low_high (codes "counting") [] (count_functions n)
+
+-- a chain of sixteen derivations
 abbrev pub counting : Order → Parts
-counting order = record {
-  name = codes "counting";
-  lattice = order;
-  level_names = codes "LOW" ∷ codes "HIGH" ∷ [];
-  types = [];
-  params = [];
-  assertions = [];
-  functions = count_functions 17;
-}
+counting = counting_to 17

@@ -113,7 +113,7 @@ RankLaw = (as' : List GuardedChange) → HasNoCycle as' → (g : ℕ) → IsRank
 abbrev pub FewRanksLaw : Type 0
 FewRanksLaw = (as' : List GuardedChange) → HasNoCycle as' → (g : ℕ) → change_rank as' g ≤ changed_functions as'
 
--- it is less where a function that is changed or whose new value is read is always one that is changed
+-- the rank of a function that is changed is less than that number, where each function whose new value is read is changed too
 abbrev pub ChangedRanksLaw : Type 0
 ChangedRanksLaw = (as' : List GuardedChange) → HasNoCycle as' → ((g h : ℕ) → IsBefore as' h g → Contains (map (λ a. a.fun) as') h) →
     (a : GuardedChange) → Contains as' a → change_rank as' a.fun < changed_functions as'

@@ -1,0 +1,7 @@
+pub mod StepLemmas
+mod Trails
+mod Levels
+mod Old
+mod Closed
+mod Parts
+mod Clashing

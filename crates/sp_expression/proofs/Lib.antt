@@ -1,8 +1,8 @@
 pub mod Decisions
-pub mod Front
+mod Front
 pub mod Laws
-pub mod Leaves
-pub mod Levels
+mod Leaves
+mod Levels
 pub mod Present
-pub mod Ranks
+mod Ranks
 pub mod Steps

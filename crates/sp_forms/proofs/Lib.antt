@@ -1,6 +1,6 @@
 pub mod Agree
-pub mod Laws
+mod Laws
 pub mod Levels
-pub mod Parts
-pub mod Sound
+mod Parts
+mod Sound
 pub mod Whole

@@ -29,9 +29,9 @@ use Rattle.sp_cursor.specs.Lines.{type_line, formal_line, names_line}
 abbrev pub Marks : Type 0
 Marks = Bool × List (Ident × ExprTree)
 
-abbrev pub marks_or : Option Marks → Marks
-marks_or None = (false, [])
-marks_or (Some m) = m
+abbrev pub marks_or : Option Marks → ℕ → ℕ → Marks
+marks_or None i j = (false, [])
+marks_or (Some m) i j = m
 
 -- exceptions and effects
 abbrev pub Operation : Type 0
@@ -69,9 +69,9 @@ value_operation p = record {
 }
 
 -- the variables of a FORALL effect
-abbrev pub bound_list : FormalTree × Option FormalTree → List FormalTree
-bound_list (v, None) = v ∷ []
-bound_list (v, Some w) = v ∷ w ∷ []
+abbrev pub bound_list : FormalTree × Option FormalTree → ℕ → ℕ → List FormalTree
+bound_list (v, None) i j = v ∷ []
+bound_list (v, Some w) i j = v ∷ w ∷ []
 
 -- IF, the condition, THEN, the effects, ELSE, the effects, END_IF, the semicolon; the span is that of IF
 abbrev pub if_effect : List Token → Unit {0} × (ExprTree × (Unit {0} × (List EffectTree × (Unit {0} × (List EffectTree × (Unit {0} × Unit {0})))))) → ℕ → ℕ → EffectTree
@@ -133,7 +133,7 @@ external_line = map (λ p. (p.1.0, p.1.1.1.0)) (seq (token word_from) (seq name 
 
 -- formal [";" formal]
 unfoldable pub bound_line : Line (List FormalTree)
-bound_line = map bound_list (seq formal_line (optional (behind semicolon formal_line)))
+bound_line = made (λ ts. bound_list) (seq formal_line (optional (behind semicolon formal_line)))
 
 -- expr ";"
 unfoldable pub statement_line : Line ExprTree
@@ -157,7 +157,7 @@ maybe_exceptions = map list_or (optional exceptions_line)
 
 -- [HIDDEN ";" | exceptions]
 unfoldable pub marks_line : Line Marks
-marks_line = map marks_or (optional (either (map (λ p. (true, [])) (seq (token word_hidden) (token semicolon))) (map (λ es. (false, es)) exceptions_line)))
+marks_line = made (λ ts. marks_or) (optional (either (map (λ p. (true, [])) (seq (token word_hidden) (token semicolon))) (map (λ es. (false, es)) exceptions_line)))
 
 -- (INITIALLY | DERIVATION) expr ";"
 unfoldable pub value_body : Line Body

@@ -20,7 +20,7 @@ pub fn low_high(alloc: Global) -> Result<Lattice, Memory>
     ensures order { IfOk result IsLowHigh }
     ensures lattice { IfOk result IsLatticeOrder }
 {
-    let below = vec![in alloc; (0, 1)]?;
+    let below = Sequence::new(vec![in alloc; (0, 1)]?);
     Lattice::declare(alloc, &LatticeDecl { count: 2, below }).map_err(|_| Memory)
 }
 

@@ -81,7 +81,11 @@ pub(crate) fn negative(tokens: &[Token], start: usize, end: u32) -> Result<ExprT
 }
 
 /// The name that stands there, if one does.
-pub(crate) fn ident_at(alloc: Global, tokens: &[Token], place: usize) -> Result<Option<Ident>, Memory>
+pub(crate) fn ident_at(
+    alloc: Global,
+    tokens: &[Token],
+    place: usize,
+) -> Result<Option<Ident>, Memory>
     ensures none { IfOk result (λ found. IfNone found (code_at tokens.now place ≡ name_code → ⊥)) }
     ensures some { IfOk result (λ found. IfSome found (λ v. slice_get tokens.now place ≡ Some (record { kind = kind.Name v.name; span = v.span }))) }
     ensures within { IfOk result (λ found. IfSome found (λ _. place < length tokens.now)) }
@@ -96,7 +100,11 @@ pub(crate) fn ident_at(alloc: Global, tokens: &[Token], place: usize) -> Result<
 }
 
 /// The type that stands there, if one does.
-pub(crate) fn type_at(alloc: Global, tokens: &[Token], place: usize) -> Result<Option<TypeTree>, Memory>
+pub(crate) fn type_at(
+    alloc: Global,
+    tokens: &[Token],
+    place: usize,
+) -> Result<Option<TypeTree>, Memory>
     ensures none { IfOk result (λ found. IfNone found (IsTrue (has type_first (code_at tokens.now place)) → ⊥)) }
     ensures some { IfOk result (λ found. IfSome found (λ t. (type_line tokens.now).whole t place (suc place))) }
     ensures within { IfOk result (λ found. IfSome found (λ _. place < length tokens.now)) }

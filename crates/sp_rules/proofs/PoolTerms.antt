@@ -1,10 +1,10 @@
 -- The terms of a pool are few, with few arguments.
-use Rattle.std.proofs.Common.{◌≡◌, ℕ, ◌<◌, ◌≤◌, ◌⊎◌, ⊎_elim, Bool, List, length, sym, ap, subst, arith}
+use Rattle.std.proofs.Common.{ℕ, ◌<◌, ◌≤◌, ◌⊎◌, ⊎_elim, Bool, List, length, sym, subst, arith}
 use Rattle.std.proofs.lemmas.Option.{slice_get-get_or, slice_get_within}
 use Rattle.std.proofs.lemmas.List.{get_or_past}
 use Rattle.sp_lattice.specs.Order.{Order}
 use Rattle.sp_pool.specs.declared.node.Node.{Node}
-use Rattle.sp_pool.specs.Nodes.{IsPool, truth_node}
+use Rattle.sp_pool.specs.Nodes.{IsPool}
 use Rattle.sp_rules.specs.Terms.{Terms, AreSmall, blank, node_at}
 
 module _ (pool : List Node) (is : IsPool pool) (levels : List Bool) (lattice : Order) where

@@ -1,11 +1,11 @@
 -- Given facts and atoms are truth values of terms, and terms.
-use Rattle.std.proofs.Common.{◌≡◌, ℕ, ◌<◌, ◌&&◌, Bool, true, false, ltb, List, [], ◌∷◌, ◌++◌, map, refl, arith}
+use Rattle.std.proofs.Common.{◌≡◌, ℕ, ◌<◌, true, false, List, [], ◌∷◌, map, arith}
 use Rattle.std.specs.Prelude.{All, IsTrue, slice_index_or, zero, suc}
 use Rattle.std.proofs.lemmas.Bool.Decides.{Decides-ltb}
 use Rattle.std.proofs.lemmas.List.Elements.{All-append, All-map}
 use Rattle.sp_pool.specs.declared.node.TermId.{TermId}
 use Rattle.sp_rules.specs.Terms.{Terms, AreSmall, count}
-use Rattle.sp_rules.specs.Questions.{IsQuestion, Question, given_facts, is_truth_below, numbers}
+use Rattle.sp_rules.specs.Questions.{IsQuestion, given_facts, is_truth_below, numbers}
 use Rattle.sp_rules.specs.Facts.{has_truth}
 use Rattle.sp_rules.specs.declared.fact.Fact.{Fact}
 use Rattle.sp_rules.specs.declared.fact.Fact.TheVariants.{Eq}

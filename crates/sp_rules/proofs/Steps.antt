@@ -1,11 +1,10 @@
 -- Steps that lack nothing, and the laws of the rules. Public: who speaks of steps goes on from here.
-use Rattle.std.proofs.Common.{◌≡◌, ℕ, ◌<◌, ◌⊎◌, ◌||◌, ◌&&◌, Bool, true, false, cond, Option, Some, None, refl, sym, ap, ◌∙◌, subst, inl, inr, ⊎_elim}
-use Rattle.sp_rules.specs.Terms.{Terms, node_at, arg}
+use Rattle.std.proofs.Common.{◌≡◌, ◌||◌, Bool, true, false, cond, Option, Some, None, refl, ap, ◌∙◌, inl, inr, ⊎_elim}
+use Rattle.sp_rules.specs.Terms.{Terms, node_at}
 use Rattle.sp_rules.specs.Table.{are_terms, is_formed, needs, unmet, lack_of, lack_of_need}
 use Rattle.sp_rules.specs.Follows.{Follows, IsPremise, start, step}
 use Rattle.sp_rules.specs.Laws.{IsClosed, AreIn, EachFollows}
 use Rattle.sp_rules.specs.declared.fact.Fact.{Fact}
-use Rattle.sp_rules.specs.declared.fact.Fact.TheVariants.{Eq, Le}
 use Rattle.sp_rules.specs.declared.fact.Step.{Step}
 use Rattle.sp_rules.specs.declared.fact.Lack.{Lack}
 use Rattle.sp_rules.specs.declared.fact.Lack.TheVariants.{Number, Form}

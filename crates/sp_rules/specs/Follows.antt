@@ -3,7 +3,7 @@ use Rattle.std.specs.Prelude.{◌≡◌, ℕ, ◌<◌, ◌⊎◌, Bool, true, co
 use Rattle.sp_rules.specs.Terms.{Terms, node_at, arg}
 use Rattle.sp_rules.specs.Table.{are_terms, is_formed, needs}
 use Rattle.sp_rules.specs.declared.fact.Fact.{Fact}
-use Rattle.sp_rules.specs.declared.fact.Fact.TheVariants.{Eq, Le}
+use Rattle.sp_rules.specs.declared.fact.Fact.TheVariants.{Eq}
 use Rattle.sp_rules.specs.declared.fact.Step.{Step}
 use Rattle.sp_rules.specs.declared.fact.Needs.{Needs}
 use Rattle.sp_rules.specs.declared.fact.Needs.TheVariants.{Nothing, One, Both, Either, Arguments}

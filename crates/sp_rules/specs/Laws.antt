@@ -1,5 +1,5 @@
 -- Closed sets of facts, and the laws of the rules.
-use Rattle.std.specs.Prelude.{◌≡◌, Bool, true, Option, None}
+use Rattle.std.specs.Prelude.{◌≡◌, Bool, true, None}
 use Rattle.sp_rules.specs.Terms.{Terms}
 use Rattle.sp_rules.specs.Table.{lack_of}
 use Rattle.sp_rules.specs.Follows.{Follows}

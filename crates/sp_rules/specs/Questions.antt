@@ -1,5 +1,5 @@
 -- A formula as the closure sees it. For those who open a closure, a search or a checker.
-use Rattle.std.specs.Prelude.{◌≡◌, ◌++◌, ◌∷◌, [], ◌<◌, ◌&&◌, ℕ, Bool, true, false, All, IsTrue, List, map, nat_lt}
+use Rattle.std.specs.Prelude.{◌++◌, ◌∷◌, [], ◌<◌, ◌&&◌, ℕ, Bool, true, false, All, IsTrue, List, map, nat_lt}
 use Rattle.sp_pool.specs.declared.node.TermId.{TermId}
 use Rattle.sp_rules.specs.Terms.{Terms, AreSmall, count}
 use Rattle.sp_rules.specs.Facts.{has_truth}

@@ -1,6 +1,6 @@
 -- The rules by which facts follow, as a table: the form of a rule's steps, and what they need.
 -- For the closure and for certificates, which both speak of steps.
-use Rattle.std.specs.Prelude.{◌==◌, ℕ, zero, suc, ◌-◌, ◌||◌, ◌&&◌, Bool, true, false, cond, nat_lt, not, List, Option, Some, None}
+use Rattle.std.specs.Prelude.{◌==◌, ℕ, zero, suc, ◌-◌, ◌||◌, ◌&&◌, Bool, false, cond, nat_lt, Option, Some, None}
 use Rattle.sp_values.specs.declared.value.Op.TheVariants.{And, Or, Same, LevelLe, Lub, Glb}
 use Rattle.sp_lattice.specs.Order.{bottom_level, top_level}
 use Rattle.sp_rules.specs.Terms.{Terms, count, node_at, arg, are_alike, is_two, is_not, is_if, is_part, is_level, are_below, is_constant_of, computes}

@@ -1,11 +1,11 @@
 -- The terms of a formula, by their numbers, and the tests of their forms. For the rules by which facts about them follow.
-use Rattle.std.specs.Prelude.{◌==◌, ◌≤◌, ℕ, ◌||◌, ◌&&◌, Bool, true, false, not, List, [], length, nat_lt, slice_index_or}
+use Rattle.std.specs.Prelude.{◌==◌, ◌≤◌, ℕ, ◌||◌, ◌&&◌, Bool, true, false, List, [], length, nat_lt, slice_index_or}
 use Rattle.sp_values.specs.declared.value.Value.{Value}
-use Rattle.sp_values.specs.declared.value.Value.TheVariants.{Truth, Int, Level, Member, Unknown}
+use Rattle.sp_values.specs.declared.value.Value.TheVariants.{Truth, Int, Level, Unknown}
 use Rattle.sp_values.specs.declared.value.Op.{Op}
 use Rattle.sp_values.specs.declared.value.Op.TheVariants.{Add, Sub, Mul}
 use Rattle.sp_values.specs.Arithmetic.{sum, difference, product}
-use Rattle.sp_lattice.specs.Order.{Order, is_below, bottom_level, top_level}
+use Rattle.sp_lattice.specs.Order.{Order, is_below}
 use Rattle.sp_pool.specs.declared.node.Node.{Node}
 use Rattle.sp_pool.specs.declared.node.Head.{Head}
 use Rattle.sp_pool.specs.declared.node.Head.TheVariants.{Const, Var, Not, Two, If, Param, Look, New, Quant}

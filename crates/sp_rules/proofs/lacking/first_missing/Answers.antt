@@ -1,6 +1,6 @@
-use Rattle.std.proofs.Common.{◌≡◌, ℕ, ◌<◌, ◌≤◌, not, Bool, true, false, sym, ap, ◌∙◌, arith, add-one}
-use Rattle.sp_rules.specs.Terms.{Terms, node_at, arg}
-use Rattle.sp_rules.specs.declared.fact.Fact.TheVariants.{Eq, Le}
+use Rattle.std.proofs.Common.{◌≡◌, true, false, sym, arith, add-one}
+use Rattle.sp_rules.specs.Terms.{node_at, arg}
+use Rattle.sp_rules.specs.declared.fact.Fact.TheVariants.{Eq}
 use Rattle.sp_rules.specs.Facts.{holds_in}
 use Rattle.sp_rules.proofs.ArgumentsApart.{found_of, none_more}
 use Rattle.sp_rules.proofs.lacking.first_missing.Goals as goal

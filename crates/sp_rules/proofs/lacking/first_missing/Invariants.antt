@@ -1,5 +1,4 @@
-use Rattle.std.proofs.Common.{◌≡◌, ℕ, ◌≤◌, Option, None}
-use Rattle.sp_rules.specs.Terms.{Terms, node_at}
+use Rattle.std.proofs.Common.{◌≡◌, None}
 use Rattle.sp_rules.specs.Table.{first_apart}
 use Rattle.sp_rules.specs.Facts.{holds_in}
 use Rattle.sp_rules.proofs.lacking.first_missing.Given as goal

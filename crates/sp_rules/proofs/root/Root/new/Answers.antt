@@ -1,5 +1,5 @@
-use Rattle.std.proofs.Common.{◌≡◌, ℕ, List, sym, subst}
-use Rattle.sp_rules.specs.Questions.{IsQuestion, Question, given_facts, numbers}
+use Rattle.std.proofs.Common.{ℕ, List, sym, subst}
+use Rattle.sp_rules.specs.Questions.{IsQuestion, given_facts, numbers}
 use Rattle.sp_rules.specs.declared.fact.Fact.{Fact}
 use Rattle.sp_rules.proofs.QuestionLemmas.{question_is}
 use Rattle.sp_rules.proofs.root.Root.new.Goals as goal

@@ -1,6 +1,6 @@
-use Rattle.std.proofs.Common.{◌≡◌, List, sym, subst}
+use Rattle.std.proofs.Common.{List, sym, subst}
 use Rattle.sp_pool.specs.declared.node.Node.{Node}
-use Rattle.sp_rules.specs.Terms.{Terms, AreSmall}
+use Rattle.sp_rules.specs.Terms.{AreSmall}
 use Rattle.sp_rules.proofs.PoolTerms.{pool_small}
 use Rattle.sp_rules.proofs.terms.TermTable.open.Goals as goal
 

@@ -3,7 +3,7 @@ use Rattle.std.proofs.Common.{◌≡◌, refl, sym, ◌∙◌, ap, subst, arith,
 use Rattle.std.specs.Prelude.{IsTrue, slice_get, ◌↔◌}
 use Rattle.std.specs.List.{All, Contains, range_with_len}
 use Rattle.std.proofs.lemmas.List.{append-nil, get_or_default, length-map}
-use Rattle.std.proofs.lemmas.List.Elements.{All-head, All-tail}
+use Rattle.std.proofs.lemmas.List.Elements.{All-tail}
 use Rattle.std.proofs.lemmas.Option.{slice_get_read}
 use Rattle.std.proofs.Math.Seq.{take-length}
 use Rattle.sp_values.specs.declared.value.Ty.{Ty}
@@ -112,9 +112,6 @@ module _ (s : Setting) where
           reads_nothing = h.1.reads_nothing;
         },
       )
-
-  pub claim_finite : (t : Ty) (ts : List Ty) (x : List Value) (b : Tree) → IsClaim s (t ∷ ts) x b → IsTrue (is_finite (signature s.parts) t)
-  claim_finite t ts x b h = All-head (λ t. IsTrue (is_finite (signature s.parts) t)) t ts h.1.finite
 
   -- an assertion is a claim over no values
   pub assertion_claim : (a : Assertion) → IsAssertion (signature s.parts) a → IsClaim s (types_of a.vars) [] (tree a.body)

@@ -43,9 +43,6 @@ abbrev signature_with : List (List ℕ × Expr) → Order → Signature
 signature_with es o = signature (files_with es [] o)
 
 module _ (es : List (List ℕ × Expr)) (o : Order) where
-  few_formals : (formals : List Formal) → length formals ≤ 8 → All (λ t. IsTrue (is_type (signature_with es o) t)) (types_of formals) → AreFormals (signature_with es o) formals
-  few_formals formals l t = record { few = l; types = t }
-
   user_formals : AreFormals (signature_with es o) (user ∷ [])
   user_formals = record { few = omega arith; types = All-one (λ t. IsTrue (is_type (signature_with es o) t)) (ty.Member 0) refl }
 

@@ -6,7 +6,7 @@ ghost use Rattle.sp_forms.specs.Cursors.{Reader, Reads};
 ghost use Rattle.sp_cursor.specs.Items.{many_of, section_of, separated_of, separated_or_none_of, ReadsAs, Tells};
 
 use crate::tokens::Tokens;
-use sp_expression::tokens::Mark;
+use sp_expression::tokens::FixedToken;
 use sp_text::{Sequence, TextFault};
 use std::alloc::Global;
 
@@ -34,7 +34,7 @@ pub fn many<
 pub fn separated<T: Drop, F: Fn(Global, &mut Tokens<'_>) -> Result<T, TextFault>>(
     alloc: Global,
     tokens: &mut Tokens<'_>,
-    mark: Mark,
+    mark: FixedToken,
     item: F,
 ) -> Result<Sequence<T>, TextFault>
     requires { F.IsAlwaysCallable item }
@@ -59,7 +59,7 @@ pub fn separated_or_none<
 >(
     alloc: Global,
     tokens: &mut Tokens<'_>,
-    mark: Mark,
+    mark: FixedToken,
     begins: B,
     item: F,
 ) -> Result<Sequence<T>, TextFault>
@@ -82,7 +82,7 @@ pub fn section<
 >(
     alloc: Global,
     tokens: &mut Tokens<'_>,
-    keyword: Mark,
+    keyword: FixedToken,
     begins: B,
     item: F,
 ) -> Result<Sequence<T>, TextFault>

@@ -2,94 +2,94 @@
 
 pub use sp_expression::tokens::{
     AND, ASTERISK, BOOLEAN, BOTTOM, COLON, COMMA, ELSE, END_EXISTS, END_FORALL, END_IF, EQUAL,
-    EXISTS, FALSE, FORALL, GLB, GREATER, GREATER_OR_EQUAL, IF, IFF, IMPLIES, INTEGER,
-    LEFT_PARENTHESIS, LESS, LESS_OR_EQUAL, LEVEL, LUB, MINUS, Mark, NOT, NOT_EQUAL, OR, PLUS,
-    QUESTION, QUOTE, RIGHT_PARENTHESIS, THEN, TOP, TRUE,
+    EXISTS, FALSE, FORALL, FixedToken, GLB, GREATER, GREATER_OR_EQUAL, IF, IFF, IMPLIES, INTEGER,
+    LEFT_PARENTHESIS, LESS, LESS_OR_EQUAL, LEVEL, LUB, MINUS, NOT, NOT_EQUAL, OR, PLUS, QUESTION,
+    QUOTE, RIGHT_PARENTHESIS, THEN, TOP, TRUE,
 };
 use sp_text::{Keyword, Symbol};
 
-pub const MODULE: Mark = Mark::Word(Keyword::Module);
+pub const MODULE: FixedToken = FixedToken::Word(Keyword::Module);
 
-pub const END_MODULE: Mark = Mark::Word(Keyword::EndModule);
+pub const END_MODULE: FixedToken = FixedToken::Word(Keyword::EndModule);
 
-pub const TYPES: Mark = Mark::Word(Keyword::Types);
+pub const TYPES: FixedToken = FixedToken::Word(Keyword::Types);
 
-pub const PARAMETERS: Mark = Mark::Word(Keyword::Parameters);
+pub const PARAMETERS: FixedToken = FixedToken::Word(Keyword::Parameters);
 
-pub const DEFINITIONS: Mark = Mark::Word(Keyword::Definitions);
+pub const DEFINITIONS: FixedToken = FixedToken::Word(Keyword::Definitions);
 
-pub const EXTERNALREFS: Mark = Mark::Word(Keyword::ExternalRefs);
+pub const EXTERNALREFS: FixedToken = FixedToken::Word(Keyword::ExternalRefs);
 
-pub const ASSERTIONS: Mark = Mark::Word(Keyword::Assertions);
+pub const ASSERTIONS: FixedToken = FixedToken::Word(Keyword::Assertions);
 
-pub const FUNCTIONS: Mark = Mark::Word(Keyword::Functions);
+pub const FUNCTIONS: FixedToken = FixedToken::Word(Keyword::Functions);
 
-pub const DESIGNATOR: Mark = Mark::Word(Keyword::Designator);
+pub const DESIGNATOR: FixedToken = FixedToken::Word(Keyword::Designator);
 
-pub const FROM: Mark = Mark::Word(Keyword::From);
+pub const FROM: FixedToken = FixedToken::Word(Keyword::From);
 
-pub const IS: Mark = Mark::Word(Keyword::Is);
+pub const IS: FixedToken = FixedToken::Word(Keyword::Is);
 
-pub const VFUN: Mark = Mark::Word(Keyword::Vfun);
+pub const VFUN: FixedToken = FixedToken::Word(Keyword::Vfun);
 
-pub const OFUN: Mark = Mark::Word(Keyword::Ofun);
+pub const OFUN: FixedToken = FixedToken::Word(Keyword::Ofun);
 
-pub const OVFUN: Mark = Mark::Word(Keyword::Ovfun);
+pub const OVFUN: FixedToken = FixedToken::Word(Keyword::Ovfun);
 
-pub const HIDDEN: Mark = Mark::Word(Keyword::Hidden);
+pub const HIDDEN: FixedToken = FixedToken::Word(Keyword::Hidden);
 
-pub const EXCEPTIONS: Mark = Mark::Word(Keyword::Exceptions);
+pub const EXCEPTIONS: FixedToken = FixedToken::Word(Keyword::Exceptions);
 
-pub const INITIALLY: Mark = Mark::Word(Keyword::Initially);
+pub const INITIALLY: FixedToken = FixedToken::Word(Keyword::Initially);
 
-pub const DERIVATION: Mark = Mark::Word(Keyword::Derivation);
+pub const DERIVATION: FixedToken = FixedToken::Word(Keyword::Derivation);
 
-pub const EFFECTS: Mark = Mark::Word(Keyword::Effects);
+pub const EFFECTS: FixedToken = FixedToken::Word(Keyword::Effects);
 
-pub const INTERFACE: Mark = Mark::Word(Keyword::Interface);
+pub const INTERFACE: FixedToken = FixedToken::Word(Keyword::Interface);
 
-pub const END_INTERFACE: Mark = Mark::Word(Keyword::EndInterface);
+pub const END_INTERFACE: FixedToken = FixedToken::Word(Keyword::EndInterface);
 
-pub const MODULES: Mark = Mark::Word(Keyword::Modules);
+pub const MODULES: FixedToken = FixedToken::Word(Keyword::Modules);
 
-pub const LATTICE: Mark = Mark::Word(Keyword::Lattice);
+pub const LATTICE: FixedToken = FixedToken::Word(Keyword::Lattice);
 
-pub const ORDER: Mark = Mark::Word(Keyword::Order);
+pub const ORDER: FixedToken = FixedToken::Word(Keyword::Order);
 
-pub const CHAIN: Mark = Mark::Word(Keyword::Chain);
+pub const CHAIN: FixedToken = FixedToken::Word(Keyword::Chain);
 
-pub const CATEGORIES: Mark = Mark::Word(Keyword::Categories);
+pub const CATEGORIES: FixedToken = FixedToken::Word(Keyword::Categories);
 
-pub const SAMPLE: Mark = Mark::Word(Keyword::Sample);
+pub const SAMPLE: FixedToken = FixedToken::Word(Keyword::Sample);
 
-pub const INSTANCE: Mark = Mark::Word(Keyword::Instance);
+pub const INSTANCE: FixedToken = FixedToken::Word(Keyword::Instance);
 
-pub const END_INSTANCE: Mark = Mark::Word(Keyword::EndInstance);
+pub const END_INSTANCE: FixedToken = FixedToken::Word(Keyword::EndInstance);
 
-pub const POPULATION: Mark = Mark::Word(Keyword::Population);
+pub const POPULATION: FixedToken = FixedToken::Word(Keyword::Population);
 
-pub const PARAMETER: Mark = Mark::Word(Keyword::Parameter);
+pub const PARAMETER: FixedToken = FixedToken::Word(Keyword::Parameter);
 
-pub const OTHERWISE: Mark = Mark::Word(Keyword::Otherwise);
+pub const OTHERWISE: FixedToken = FixedToken::Word(Keyword::Otherwise);
 
-pub const HIERARCHY: Mark = Mark::Word(Keyword::Hierarchy);
+pub const HIERARCHY: FixedToken = FixedToken::Word(Keyword::Hierarchy);
 
-pub const END_HIERARCHY: Mark = Mark::Word(Keyword::EndHierarchy);
+pub const END_HIERARCHY: FixedToken = FixedToken::Word(Keyword::EndHierarchy);
 
-pub const OVER: Mark = Mark::Word(Keyword::Over);
+pub const OVER: FixedToken = FixedToken::Word(Keyword::Over);
 
-pub const BY: Mark = Mark::Word(Keyword::By);
+pub const BY: FixedToken = FixedToken::Word(Keyword::By);
 
-pub const MAPPING: Mark = Mark::Word(Keyword::Mapping);
+pub const MAPPING: FixedToken = FixedToken::Word(Keyword::Mapping);
 
-pub const END_MAPPING: Mark = Mark::Word(Keyword::EndMapping);
+pub const END_MAPPING: FixedToken = FixedToken::Word(Keyword::EndMapping);
 
-pub const TO: Mark = Mark::Word(Keyword::To);
+pub const TO: FixedToken = FixedToken::Word(Keyword::To);
 
-pub const LEFT_BRACE: Mark = Mark::Symbol(Symbol::LeftBrace);
+pub const LEFT_BRACE: FixedToken = FixedToken::Symbol(Symbol::LeftBrace);
 
-pub const RIGHT_BRACE: Mark = Mark::Symbol(Symbol::RightBrace);
+pub const RIGHT_BRACE: FixedToken = FixedToken::Symbol(Symbol::RightBrace);
 
-pub const SEMICOLON: Mark = Mark::Symbol(Symbol::Semicolon);
+pub const SEMICOLON: FixedToken = FixedToken::Symbol(Symbol::Semicolon);
 
-pub const ARROW: Mark = Mark::Symbol(Symbol::Arrow);
+pub const ARROW: FixedToken = FixedToken::Symbol(Symbol::Arrow);

@@ -12,7 +12,9 @@ ghost use Rattle.sp_forms.specs.Grammars.{keyword};
 ghost use Rattle.sp_forms.specs.Readers.{read_digits, read_end, read_expr, read_line, read_name, read_token};
 
 use sp_expression::read_expr;
-use sp_expression::tokens::{Mark, begins_expr, is, name_at, number_at, place_at, unexpected};
+use sp_expression::tokens::{
+    FixedToken, begins_expr, is, name_at, number_at, place_at, unexpected,
+};
 use sp_text::{Limit, MOST_HEIGHT, Name, Quantity, Span, TextFault, Token};
 use sp_tree::{ExprTree, Ident};
 use sqlite_items::at;
@@ -123,7 +125,7 @@ impl<'a> Tokens<'a> {
 
     /// Whether this token is next.
     #[tactic(auto, unfolding(sp_forms::specs::Cursors::lookahead))]
-    pub fn is(&self, mark: Mark) -> bool
+    pub fn is(&self, mark: FixedToken) -> bool
         ensures { result ≡ eqb (mark_code mark) (spec.lookahead self.now) }
     {
         is(self.tokens, self.place, mark)
@@ -131,7 +133,7 @@ impl<'a> Tokens<'a> {
 
     /// Takes this token, if it is next.
     #[tactic(auto, unfolding(sp_forms::specs::Readers::read_token, sp_forms::specs::Cursors::lookahead, sp_forms::specs::Cursors::next))]
-    pub fn eat(&mut self, mark: Mark) -> bool
+    pub fn eat(&mut self, mark: FixedToken) -> bool
         ensures found { result ≡ eqb (mark_code mark) (spec.lookahead self.old) }
         ensures taken { IsTrue result → read_token (mark_code mark) self.old ≡ Ok (tt, self.new) }
         ensures kept { IsFalse result → self.new ≡ self.old }
@@ -145,7 +147,7 @@ impl<'a> Tokens<'a> {
 
     /// Takes this token, which has to be next.
     #[tactic(auto, unfolding(sp_forms::specs::Readers::read_token))]
-    pub fn expect(&mut self, mark: Mark) -> Result<(), TextFault>
+    pub fn expect(&mut self, mark: FixedToken) -> Result<(), TextFault>
         ensures { Reads (read_token (mark_code mark) self.old) result self.new }
     {
         if self.eat(mark) {
@@ -156,7 +158,7 @@ impl<'a> Tokens<'a> {
     }
 
     /// Takes this token, which has to be next, for its span.
-    pub fn keyword(&mut self, mark: Mark) -> Result<Span, TextFault>
+    pub fn keyword(&mut self, mark: FixedToken) -> Result<Span, TextFault>
         ensures { Reads (read_line (keyword (mark_code mark)) self.old) result self.new }
     {
         let start = self.place();

@@ -12,8 +12,8 @@ use crate::build::{binary, choice, join, negate, paren, quantified, tree};
 use crate::leaf::{constant_at, formal, ident_at, negative};
 use crate::level::{Chain, Pair, is_chain_operator, is_pair_operator};
 use crate::tokens::{
-    COLON, COMMA, ELSE, END_IF, EXISTS, FORALL, GLB, IF, LEFT_PARENTHESIS, LUB, MINUS, Mark, NOT,
-    QUOTE, RIGHT_PARENTHESIS, THEN, begins_expr, closing, is, larger, number_at, too_high,
+    COLON, COMMA, ELSE, END_IF, EXISTS, FORALL, FixedToken, GLB, IF, LEFT_PARENTHESIS, LUB, MINUS,
+    NOT, QUOTE, RIGHT_PARENTHESIS, THEN, begins_expr, closing, is, larger, number_at, too_high,
     unexpected,
 };
 use sp_text::{TextFault, Token};
@@ -377,7 +377,7 @@ fn parse_behind(
     start: usize,
     end: u32,
     budget: u32,
-    mark: Mark,
+    mark: FixedToken,
 ) -> Result<Found, TextFault>
     requires unsigned { All (λ t. IsUnsigned t.kind) tokens.now }
     ensures reads { Parses (λ b. behind (at tokens.now) (mark_code mark) (expression tokens.now b)) budget tokens.now end start result }

@@ -17,84 +17,84 @@ use sqlite_items::at;
 
 /// A token that has one spelling.
 #[derive(Clone, Copy, Debug, PartialEq, Eq)]
-pub enum Mark {
+pub enum FixedToken {
     Word(Keyword),
     Symbol(Symbol),
 }
 
-pub const LEFT_PARENTHESIS: Mark = Mark::Symbol(Symbol::LeftParenthesis);
+pub const LEFT_PARENTHESIS: FixedToken = FixedToken::Symbol(Symbol::LeftParenthesis);
 
-pub const RIGHT_PARENTHESIS: Mark = Mark::Symbol(Symbol::RightParenthesis);
+pub const RIGHT_PARENTHESIS: FixedToken = FixedToken::Symbol(Symbol::RightParenthesis);
 
-pub const COMMA: Mark = Mark::Symbol(Symbol::Comma);
+pub const COMMA: FixedToken = FixedToken::Symbol(Symbol::Comma);
 
-pub const COLON: Mark = Mark::Symbol(Symbol::Colon);
+pub const COLON: FixedToken = FixedToken::Symbol(Symbol::Colon);
 
-pub const EQUAL: Mark = Mark::Symbol(Symbol::Equal);
+pub const EQUAL: FixedToken = FixedToken::Symbol(Symbol::Equal);
 
-pub const NOT_EQUAL: Mark = Mark::Symbol(Symbol::NotEqual);
+pub const NOT_EQUAL: FixedToken = FixedToken::Symbol(Symbol::NotEqual);
 
-pub const LESS: Mark = Mark::Symbol(Symbol::Less);
+pub const LESS: FixedToken = FixedToken::Symbol(Symbol::Less);
 
-pub const LESS_OR_EQUAL: Mark = Mark::Symbol(Symbol::LessOrEqual);
+pub const LESS_OR_EQUAL: FixedToken = FixedToken::Symbol(Symbol::LessOrEqual);
 
-pub const GREATER: Mark = Mark::Symbol(Symbol::Greater);
+pub const GREATER: FixedToken = FixedToken::Symbol(Symbol::Greater);
 
-pub const GREATER_OR_EQUAL: Mark = Mark::Symbol(Symbol::GreaterOrEqual);
+pub const GREATER_OR_EQUAL: FixedToken = FixedToken::Symbol(Symbol::GreaterOrEqual);
 
-pub const PLUS: Mark = Mark::Symbol(Symbol::Plus);
+pub const PLUS: FixedToken = FixedToken::Symbol(Symbol::Plus);
 
-pub const MINUS: Mark = Mark::Symbol(Symbol::Minus);
+pub const MINUS: FixedToken = FixedToken::Symbol(Symbol::Minus);
 
-pub const ASTERISK: Mark = Mark::Symbol(Symbol::Star);
+pub const ASTERISK: FixedToken = FixedToken::Symbol(Symbol::Star);
 
-pub const QUOTE: Mark = Mark::Symbol(Symbol::Quote);
+pub const QUOTE: FixedToken = FixedToken::Symbol(Symbol::Quote);
 
-pub const QUESTION: Mark = Mark::Symbol(Symbol::Question);
+pub const QUESTION: FixedToken = FixedToken::Symbol(Symbol::Question);
 
-pub const BOOLEAN: Mark = Mark::Word(Keyword::Boolean);
+pub const BOOLEAN: FixedToken = FixedToken::Word(Keyword::Boolean);
 
-pub const INTEGER: Mark = Mark::Word(Keyword::Integer);
+pub const INTEGER: FixedToken = FixedToken::Word(Keyword::Integer);
 
-pub const LEVEL: Mark = Mark::Word(Keyword::Level);
+pub const LEVEL: FixedToken = FixedToken::Word(Keyword::Level);
 
-pub const IF: Mark = Mark::Word(Keyword::If);
+pub const IF: FixedToken = FixedToken::Word(Keyword::If);
 
-pub const THEN: Mark = Mark::Word(Keyword::Then);
+pub const THEN: FixedToken = FixedToken::Word(Keyword::Then);
 
-pub const ELSE: Mark = Mark::Word(Keyword::Else);
+pub const ELSE: FixedToken = FixedToken::Word(Keyword::Else);
 
-pub const END_IF: Mark = Mark::Word(Keyword::EndIf);
+pub const END_IF: FixedToken = FixedToken::Word(Keyword::EndIf);
 
-pub const FORALL: Mark = Mark::Word(Keyword::Forall);
+pub const FORALL: FixedToken = FixedToken::Word(Keyword::Forall);
 
-pub const END_FORALL: Mark = Mark::Word(Keyword::EndForall);
+pub const END_FORALL: FixedToken = FixedToken::Word(Keyword::EndForall);
 
-pub const EXISTS: Mark = Mark::Word(Keyword::Exists);
+pub const EXISTS: FixedToken = FixedToken::Word(Keyword::Exists);
 
-pub const END_EXISTS: Mark = Mark::Word(Keyword::EndExists);
+pub const END_EXISTS: FixedToken = FixedToken::Word(Keyword::EndExists);
 
-pub const NOT: Mark = Mark::Word(Keyword::Not);
+pub const NOT: FixedToken = FixedToken::Word(Keyword::Not);
 
-pub const AND: Mark = Mark::Word(Keyword::And);
+pub const AND: FixedToken = FixedToken::Word(Keyword::And);
 
-pub const OR: Mark = Mark::Word(Keyword::Or);
+pub const OR: FixedToken = FixedToken::Word(Keyword::Or);
 
-pub const IMPLIES: Mark = Mark::Word(Keyword::Implies);
+pub const IMPLIES: FixedToken = FixedToken::Word(Keyword::Implies);
 
-pub const IFF: Mark = Mark::Word(Keyword::Iff);
+pub const IFF: FixedToken = FixedToken::Word(Keyword::Iff);
 
-pub const LUB: Mark = Mark::Word(Keyword::Lub);
+pub const LUB: FixedToken = FixedToken::Word(Keyword::Lub);
 
-pub const GLB: Mark = Mark::Word(Keyword::Glb);
+pub const GLB: FixedToken = FixedToken::Word(Keyword::Glb);
 
-pub const TRUE: Mark = Mark::Word(Keyword::True);
+pub const TRUE: FixedToken = FixedToken::Word(Keyword::True);
 
-pub const FALSE: Mark = Mark::Word(Keyword::False);
+pub const FALSE: FixedToken = FixedToken::Word(Keyword::False);
 
-pub const BOTTOM: Mark = Mark::Word(Keyword::Bottom);
+pub const BOTTOM: FixedToken = FixedToken::Word(Keyword::Bottom);
 
-pub const TOP: Mark = Mark::Word(Keyword::Top);
+pub const TOP: FixedToken = FixedToken::Word(Keyword::Top);
 
 fn word_number(word: Keyword) -> u8
     ensures { result ≡ word_code word }
@@ -108,12 +108,12 @@ fn symbol_number(symbol: Symbol) -> u8
     symbol as u8 + 62
 }
 
-fn mark_number(mark: Mark) -> u8
+fn mark_number(mark: FixedToken) -> u8
     ensures { result ≡ mark_code mark }
 {
     match mark {
-        Mark::Word(word) => word_number(word),
-        Mark::Symbol(symbol) => symbol_number(symbol),
+        FixedToken::Word(word) => word_number(word),
+        FixedToken::Symbol(symbol) => symbol_number(symbol),
     }
 }
 
@@ -140,14 +140,14 @@ fn code(tokens: &[Token], place: usize) -> u8
 }
 
 /// What closes FORALL, or EXISTS.
-pub(crate) fn closing(forall: bool) -> Mark
+pub(crate) fn closing(forall: bool) -> FixedToken
     ensures { mark_code result ≡ close_code forall }
 {
     if forall { END_FORALL } else { END_EXISTS }
 }
 
 /// Whether this token stands there.
-pub fn is(tokens: &[Token], place: usize, mark: Mark) -> bool
+pub fn is(tokens: &[Token], place: usize, mark: FixedToken) -> bool
     ensures value { result ≡ eqb (mark_code mark) (code_at tokens.now place) }
     ensures same { IsTrue result ↔ (code_at tokens.now place ≡ mark_code mark) }
     ensures within { IsTrue result → place < length tokens.now }

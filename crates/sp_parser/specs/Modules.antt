@@ -26,10 +26,10 @@ use Rattle.sp_cursor.specs.Lines.{type_line, formal_line, names_line}
 -- What the longer lines make of their parts.
 
 -- whether the function is hidden, and its exceptions
-abbrev pub Marks : Type 0
-Marks = Bool × List (Ident × ExprTree)
+abbrev pub HiddenAndExceptions : Type 0
+HiddenAndExceptions = Bool × List (Ident × ExprTree)
 
-abbrev pub marks_or : Option Marks → ℕ → ℕ → Marks
+abbrev pub marks_or : Option HiddenAndExceptions → ℕ → ℕ → HiddenAndExceptions
 marks_or None i j = (false, [])
 marks_or (Some m) i j = m
 
@@ -42,7 +42,7 @@ abbrev pub Named : Type 0
 Named = Ident × List FormalTree
 
 -- VFUN, the name with its formals, the type, the semicolon, the marks, the body
-abbrev pub value_function : Unit {0} × (Named × (TypeTree × (Unit {0} × (Marks × Body)))) → FunDecl
+abbrev pub value_function : Unit {0} × (Named × (TypeTree × (Unit {0} × (HiddenAndExceptions × Body)))) → FunDecl
 value_function p = record {
   head = record { name = p.1.0.0; formals = p.1.0.1; ty = Some (p.1.1.0); result = None };
   hidden = p.1.1.1.1.0.0;
@@ -156,7 +156,7 @@ unfoldable pub maybe_exceptions : Line (List (Ident × ExprTree))
 maybe_exceptions = map list_or (optional exceptions_line)
 
 -- [HIDDEN ";" | exceptions]
-unfoldable pub marks_line : Line Marks
+unfoldable pub marks_line : Line HiddenAndExceptions
 marks_line = made (λ ts. marks_or) (optional (either (map (λ p. (true, [])) (seq (token word_hidden) (token semicolon))) (map (λ es. (false, es)) exceptions_line)))
 
 -- (INITIALLY | DERIVATION) expr ";"

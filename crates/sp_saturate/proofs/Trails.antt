@@ -12,7 +12,7 @@ use Rattle.sp_rules.specs.Table.{rule_of, fits_by, is_formed}
 use Rattle.std.proofs.Math.Seq.{get_or-append_seam, take-append_seam, take-length}
 use Rattle.sp_bits.specs.Table.{Bits, is_pair, has, empty_table}
 use Rattle.sp_pool.specs.Records.{Records, HasRoom, words_held}
-use Rattle.sp_pool.proofs.Held.{get_pushed, get_taken}
+use Rattle.sp_pool.proofs.NodeLaws.{get_pushed, get_taken}
 use Rattle.sp_rules.specs.Terms.{Terms, count, AreSmall}
 use Rattle.sp_rules.specs.Table.{lack_of, in_range, are_terms}
 use Rattle.sp_rules.specs.Facts.{holds_in, is_fact}

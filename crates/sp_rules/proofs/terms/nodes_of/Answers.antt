@@ -10,4 +10,4 @@ loop-i-preserved c =
     let pool = c.args.pool.now in
     let i = c.loop-i.i in
     c.in_ok-push.ensures.items ∙ ap (λ xs. xs ++ c.node.result ∷ []) c.loop-i.invariant
-    ∙ ap (λ (n : Node). take i pool ++ n ∷ []) (sym (get_or_from_slice_get pool i c.node.result blank c.node.ensures)) ∙ sym (take_more pool i blank (omega arith))
+    ∙ ap (λ (n : Node). take i pool ++ n ∷ []) (sym (get_or_from_slice_get pool i c.node.result blank c.node.ensures.node)) ∙ sym (take_more pool i blank (omega arith))

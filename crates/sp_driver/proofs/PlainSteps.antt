@@ -1,5 +1,5 @@
 -- That writing the new values of plain changes is a step of the machine.
-use Rattle.std.proofs.Common.{◌≡◌, ◌≢◌, ℕ, suc, ◌+◌, ◌<◌, refl, sym, ◌∙◌, ap, subst, arith, Bool, true, false, List, [], ◌∷◌, ◌++◌, map, length, get_or, take, Option, Some, inl, inr}
+use Rattle.std.proofs.Common.{◌≡◌, ◌≢◌, ℕ, suc, ◌+◌, ◌<◌, refl, sym, ◌∙◌, ap, subst, arith, Bool, true, false, List, [], ◌∷◌, ◌++◌, map, length, get_or, take, Option, Some, None, inl, inr}
 use Rattle.std.specs.Prelude.{if◌then◌else◌, slice_get, position}
 use Rattle.std.specs.List.{All, AllPairs, Contains}
 use Rattle.std.proofs.lemmas.List.{take_more}
@@ -25,7 +25,7 @@ use Rattle.sp_core.specs.Tree.{Tree, Const, Var, Not, Two, If as Choose, Param, 
 use Rattle.sp_core.specs.Values.{Store, World, is_true, look, value_in}
 use Rattle.sp_core.proofs.Steps.{one_rank_made, run_append}
 use Rattle.sp_core.proofs.StateLemmas.{hit, hit-Decides}
-use Rattle.sp_core.proofs.Unique.{Contains-cons, Contains-first, Contains-later, Contains-nil}
+use Rattle.sp_core.proofs.Elements.{Contains-cons, Contains-first, Contains-later, Contains-nil}
 use Rattle.sp_driver.specs.PlainForm.{ArePlainChanges, ArePlainlyChanged, HoldsIntegers, IsPlainChange, IsPlainFunction, IsPlainKind, IsPlainTerm, IsRunUntil, IsStored, plain_machine}
 use Rattle.sp_driver.specs.PlainWork.{new_value, target_of, tree_target, tree_value, written}
 

@@ -1,0 +1,4 @@
+pub mod Headers
+pub mod Modules
+pub mod Interfaces
+pub mod Scopes

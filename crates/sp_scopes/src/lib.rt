@@ -2,10 +2,12 @@
 #![tactic(auto)]
 
 mod headers;
+mod heads;
 mod interface;
 mod module;
 mod scopes;
 
+pub use heads::{Head, Local, Sort, definition_heads, function_heads, parameter_heads, type_of};
 pub use interface::judge_names;
 pub use scopes::Scopes;
 

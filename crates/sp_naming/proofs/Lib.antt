@@ -1,0 +1,5 @@
+pub mod Gathering
+mod Indexes
+pub mod Meanings
+mod Numbering
+mod Products

@@ -1,51 +1,97 @@
--- What the top call answers and writes, for its contract.
-use Rattle.std.specs.Prelude.{◌≡◌, ◌⊎◌, ℕ, List, Option}
+-- What the top call answers and writes, and why, for its contract.
+use Rattle.std.specs.Prelude.{◌≡◌, ◌⊎◌, ℕ, List, Option, None, IsTrue}
 use Rattle.sp_text.specs.declared.fault.Limit.{Limit}
 use Rattle.sp_text.specs.declared.fault.Malformed.{Malformed}
-use Rattle.sp_text.specs.declared.fault.TextFault.{TextFault}
-use Rattle.sp_text.specs.declared.fault.TextFault.TheVariants as fault
-use Rattle.sp_outside.specs.Files.{Files}
+use Rattle.sp_outside.specs.Files.{Files, IsTooLong, first_file}
 use Rattle.sp_outside.specs.Written.{Appends, AppendsPrefix}
-use Rattle.sp_driver.specs.Report.{ComesTo, IsReport, IsUnsound}
-use Rattle.sp_driver.specs.Status.{IsFailure}
-use Rattle.sp_driver.specs.Steps.{IsMissing, IsTooLong}
-use Rattle.sp_driver.specs.Texts.{FileHasFault, TextFile, name_of}
-use Rattle.sp_driver.specs.declared.status.Status.{Status}
+use Rattle.sp_frame.specs.declared.refusal.Refusal.TheVariants as refusal
+use Rattle.sp_frame.specs.declared.refusal.WorkLimit.{WorkLimit}
+use Rattle.sp_frame.specs.declared.refusal.Verdict.{Verdict}
+use Rattle.sp_frame.specs.declared.refusal.Verdict.TheVariants as verdict
+use Rattle.sp_frame.specs.declared.report.Report.{Report}
+use Rattle.sp_frame.specs.declared.status.Status.{Status}
+use Rattle.sp_frame.specs.declared.status.Status.TheVariants as status
+use Rattle.sp_frame.specs.Endings.{Answer, Ending, Prints, Reports, answered, refused, verdict_of}
+use Rattle.sp_frame.specs.Status.{IsFailure, is_reported}
+use Rattle.sp_driver.specs.Certified.{Certified, spells}
+use Rattle.sp_driver.specs.Report.{Ends}
+use Rattle.sp_driver.specs.Words.{command_of}
 
--- the status is that of a report of the words, whose bytes were written
-abbrev pub Reported : List (List ℕ) → Status → Option (List ℕ) → Option (List ℕ) → Files → Type 0
-Reported words status before now files = (bytes : List ℕ) × IsReport words files bytes status × Appends before now bytes
+-- the bytes of the report were written, and this is its status
+abbrev pub IsWritten : Option (List ℕ) → Option (List ℕ) → Report → Status → Type 0
+IsWritten before now report result = Appends before now report.bytes.items × (result ≡ report.status)
 
--- the words have a report, and a prefix of its bytes was written
-abbrev pub CutShort : List (List ℕ) → Option (List ℕ) → Option (List ℕ) → Files → Type 0
-CutShort words before now files =
-    (bytes : List ℕ) × (status : Status) × IsReport words files bytes status × AppendsPrefix before now bytes
+module _ (words : List (List ℕ)) where
+  -- the words have an ending of this status, and its bytes were written
+  abbrev pub Reported : Status → Option (List ℕ) → Option (List ℕ) → Files → Type 0
+  Reported code before now files = (e : Ending Certified) × (bytes : List ℕ) × Ends words files e × Reports spells e bytes code × Appends before now bytes
 
--- the first file that isn't read isn't there
-abbrev pub MeetsMissing : List (List ℕ) → Files → Type 0
-MeetsMissing words files = (file : TextFile) × ComesTo words files file × IsMissing (name_of file) files
+  -- the bytes and the status are those of an ending of the words
+  abbrev pub HasReport : List ℕ → Status → Files → Type 0
+  HasReport bytes code files = (e : Ending Certified) × Ends words files e × Reports spells e bytes code
 
--- the first file that isn't read has more bytes than a text may have
-abbrev pub MeetsTooLong : List (List ℕ) → Files → Type 0
-MeetsTooLong words files = (file : TextFile) × ComesTo words files file × IsTooLong (name_of file) files
+  -- the words have an ending, and a prefix of its bytes was written
+  abbrev pub CutShort : Option (List ℕ) → Option (List ℕ) → Files → Type 0
+  CutShort before now files = (e : Ending Certified) × (bytes : List ℕ) × Ends words files e × Prints spells e bytes × AppendsPrefix before now bytes
 
--- the text of the first file that isn't read has this fault
-abbrev pub MeetsFault : List (List ℕ) → Files → TextFault → Type 0
-MeetsFault words files f = (file : TextFile) × ComesTo words files file × FileHasFault file files f
+  -- each ending of the words has this status and these bytes, unless a read, a write or memory failed
+  abbrev pub IsDetermined : Status → Option (List ℕ) → Option (List ℕ) → Files → Type 0
+  IsDetermined code before now files = (e : Ending Certified) → Ends words files e → ((bytes : List ℕ) × Reports spells e bytes code × Appends before now bytes) ⊎ IsFailure code
 
--- the first file that isn't read has too many bytes, or its text exceeds a limit
-abbrev pub MeetsLimit : List (List ℕ) → Files → Type 0
-MeetsLimit words files = MeetsTooLong words files ⊎ ((l : Limit) × MeetsFault words files (fault.Limit l))
+  -- ---- causes
 
--- the text of the first file that isn't read breaks a rule, or all are read and are judged unsound
-abbrev pub MeetsMalformed : List (List ℕ) → Files → Type 0
-MeetsMalformed words files = ((m : Malformed) × MeetsFault words files (fault.Malformed m)) ⊎ IsUnsound words files
+  -- the work ends at a file that isn't there
+  abbrev pub EndsMissing : Files → Type 0
+  EndsMissing files = (name : List ℕ) × Ends words files (refused (refusal.Missing name)) × (first_file name files ≡ None)
 
--- where this holds of the files that are told, the status is this one, unless a read, a write or memory failed
-abbrev pub AnswersWhere : (Files → Type 0) → Status → Status → Files → Type 0
-AnswersWhere cause code status files = cause files → (status ≡ code) ⊎ IsFailure status
+  -- at a file that is too long
+  abbrev pub EndsTooLong : Files → Type 0
+  EndsTooLong files = (name : List ℕ) × (most : ℕ) × Ends words files (refused (refusal.TooLong name most)) × IsTooLong name most files
 
--- the status is that of each report of the words, whose bytes were written, unless a read, a write or memory failed
-abbrev pub IsDetermined : List (List ℕ) → Status → Option (List ℕ) → Option (List ℕ) → Files → Type 0
-IsDetermined words status before now files =
-    (bytes : List ℕ) (code : Status) → IsReport words files bytes code → ((status ≡ code) × Appends before now bytes) ⊎ IsFailure status
+  -- at the word for a level, which is too long
+  abbrev pub EndsLong : Files → Type 0
+  EndsLong files = Ends words files (refused refusal.LongWord)
+
+  -- at a place of a text that exceeds a limit
+  abbrev pub EndsExceeded : Files → Type 0
+  EndsExceeded files = (name : List ℕ) × (l : Limit) × Ends words files (refused (refusal.Exceeded name l))
+
+  -- at a limit of the work
+  abbrev pub EndsWorked : Files → Type 0
+  EndsWorked files = (limit : WorkLimit) × Ends words files (refused (refusal.Work limit))
+
+  -- at a place of a text that breaks a rule
+  abbrev pub EndsBroken : Files → Type 0
+  EndsBroken files = (name : List ℕ) × (m : Malformed) × Ends words files (refused (refusal.Broken name m))
+
+  -- at a declared order that breaks a rule at two levels
+  abbrev pub EndsUnordered : Files → Type 0
+  EndsUnordered files = (name : List ℕ) × (m : Malformed) × (first : List ℕ) × (second : List ℕ) × Ends words files (refused (refusal.BrokenOrder name m first second))
+
+  -- at an assertion that is false in an instance
+  abbrev pub EndsFalse : Files → Type 0
+  EndsFalse files = (name : List ℕ) × (number : ℕ) × Ends words files (refused (refusal.NotAdmissible name number))
+
+  -- with an answer of this verdict
+  abbrev pub EndsAnswered : Verdict → Files → Type 0
+  EndsAnswered v files = (a : Answer Certified) × Ends words files (answered a) × (verdict_of a ≡ v)
+
+  -- the cause of each status
+  abbrev pub CauseOf : Status → Files → Type 0
+  CauseOf status.Ok files = EndsAnswered verdict.Ok files
+  CauseOf status.Refused files = EndsAnswered verdict.Refused files
+  CauseOf status.Conflict files = EndsAnswered verdict.Conflict files
+  CauseOf status.Malformed files = EndsBroken files ⊎ EndsUnordered files
+  CauseOf status.Words files = command_of words ≡ None
+  CauseOf status.Missing files = EndsMissing files
+  CauseOf status.Limit files = EndsTooLong files ⊎ EndsExceeded files ⊎ EndsWorked files ⊎ EndsLong files
+  CauseOf status.NotAdmissible files = EndsFalse files
+  CauseOf status.ReadFault files = ⊥
+  CauseOf status.WriteFault files = ⊥
+  CauseOf status.Memory files = ⊥
+
+  -- a status comes only where its cause is, and where the cause of a status is, that status comes, unless a read, a write or
+  -- memory failed
+  pub record IsCaused (result : Status) (files : Files) : Type 0 where
+    pub only : IsTrue (is_reported result) → CauseOf result files
+    pub always : (code : Status) → CauseOf code files → (result ≡ code) ⊎ IsFailure result

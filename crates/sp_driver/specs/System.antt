@@ -1,43 +1,29 @@
--- What it means that a system is read: its interface, then the module that it names, then the sample that it names.
--- For what a report is.
-use Rattle.std.specs.Prelude.{◌≡◌, ◌⊎◌, ℕ, List}
+-- What it means that a system is read: its interface, then the module that it names, then the sample that it names; and that
+-- it is judged. One definition for all commands.
+use Rattle.std.specs.Prelude.{ℕ, List}
+use Rattle.sp_text.specs.declared.fault.Malformed.{Malformed}
+use Rattle.sp_text.specs.declared.fault.Rule.TheVariants as rule
 use Rattle.sp_outside.specs.Files.{Files}
-use Rattle.sp_driver.specs.Steps.{Then}
-use Rattle.sp_driver.specs.Texts.{ReadGives, ReadRefused, TextFile, instance_file, instance_form, interface_form, module_file, module_form, of_instance, of_interface, of_module}
-use Rattle.sp_driver.specs.declared.read.Reading.{Reading}
-use Rattle.sp_driver.specs.declared.small.texts.SmallInterface.{SmallInterface}
-use Rattle.sp_driver.specs.declared.small.texts.SmallModule.{SmallModule}
-use Rattle.sp_driver.specs.declared.status.Status.{Status}
+use Rattle.sp_small.specs.SmallRules.{IsSoundInterface}
+use Rattle.sp_frame.specs.declared.refusal.Refusal.TheVariants as refusal
+use Rattle.sp_frame.specs.Files.{FileRead}
+use Rattle.sp_frame.specs.Steps.{Demand, Gives, Step, Then}
+use Rattle.sp_driver.specs.Sorts.{instance_file, instance_sort, interface_sort, module_file, module_sort}
 use Rattle.sp_driver.specs.declared.system.System.{System}
 
--- the module or the sample of an interface is refused
-abbrev pub PartsRefused : SmallInterface → Files → List ℕ → Status → Type 0
-PartsRefused interface files =
-    Then (ReadRefused module_form (module_file interface.module) files) (ReadGives module_form (module_file interface.module) files) (λ _.
-    ReadRefused instance_form (instance_file interface.sample) files)
+-- the texts of the system are read
+abbrev pub SystemRead : List ℕ → Files → Step System
+SystemRead name files =
+    Then (FileRead interface_sort name files) (λ i.
+    Then (FileRead module_sort (module_file i.tree.module) files) (λ m.
+    Then (FileRead instance_sort (instance_file i.tree.sample) files) (λ s.
+    Gives (record { interface = i; «module» = m; sample = s }))))
 
--- both are read
-pub record PartsGive (interface : SmallInterface) (files : Files) (system : System) : Type 0 where
-  pub module_read : ReadGives module_form (module_file interface.module) files system.module
-  pub sample_read : ReadGives instance_form (instance_file interface.sample) files system.sample
+-- the fault of a whole text of this length whose reader isn't built yet
+abbrev pub whole : ℕ → Malformed
+whole end = record { span = record { start = 0; end = end }; rule = rule.Unbuilt }
 
--- the interface of that file, or a part of it, is refused
-abbrev pub SystemRefused : List ℕ → Files → List ℕ → Status → Type 0
-SystemRefused name files =
-    Then (ReadRefused interface_form name files) (ReadGives interface_form name files) (λ interface. PartsRefused interface.tree files)
-
--- the interface of that file and its parts are read
-pub record SystemGives (name : List ℕ) (files : Files) (system : System) : Type 0 where
-  pub interface_read : ReadGives interface_form name files system.interface
-  pub parts_read : PartsGive system.interface.tree files system
-
--- the reading of a system comes to this file: those before it are read
-abbrev pub PartsComeTo : SmallInterface → Files → TextFile → Type 0
-PartsComeTo interface files file =
-    (file ≡ of_module (module_file interface.module))
-    ⊎ ((m : Reading SmallModule) × ReadGives module_form (module_file interface.module) files m × (file ≡ of_instance (instance_file interface.sample)))
-
-abbrev pub SystemComesTo : List ℕ → Files → TextFile → Type 0
-SystemComesTo interface files file =
-    (file ≡ of_interface interface)
-    ⊎ ((i : Reading SmallInterface) × ReadGives interface_form interface files i × PartsComeTo i.tree files file)
+-- the system of the interface in this file breaks no rule
+abbrev pub SystemJudged : List ℕ → System → Step (Unit {0})
+SystemJudged file system =
+    Demand (IsSoundInterface system.interface.tree system.module.tree system.sample.tree) (refusal.Broken file (whole system.interface.end))

@@ -1,16 +1,16 @@
-ghost use Rattle.std.specs.Prelude.{◌≡◌, ◌≢◌, ◌≤◌, ◌++◌, IfOk, IfSome, string_bytes};
-ghost use Rattle.std.specs.Str.{IsUtf8};
-ghost use Rattle.sp_outside.specs.Causes.{Rose};
-ghost use Rattle.sp_driver.specs.Early.{IfRefused, IsReadFault, Reports};
-ghost use Rattle.sp_driver.specs.System.{PartsGive, PartsRefused, SystemGives, SystemRefused};
-ghost use Rattle.sp_driver.specs.Texts.{ReadGives, ReadRefused};
+//! Systems: an interface with its module and its sample.
 
-use crate::read::{Reading, SmallText, load_tree};
-use crate::report::Early;
-use crate::small::texts::{SmallInstance, SmallInterface, SmallModule};
-use crate::status::Status;
+ghost use Rattle.std.specs.Prelude.{OnOk};
+ghost use Rattle.sp_small.specs.SmallRules.{IsSoundInterface};
+ghost use Rattle.sp_frame.specs.Loads.{Loads};
+ghost use Rattle.sp_frame.specs.Steps.{Does};
+ghost use Rattle.sp_driver.specs.System.{SystemJudged, SystemRead};
+
+use crate::sorts::{Reading, unbuilt_malformed};
+use sp_frame::{LoadStop, Stop, broken, read_file, read_named};
 use sp_outside::Library;
-use sp_text::{Memory, Name};
+use sp_small::is_sound_interface;
+use sp_small::texts::{SmallInstance, SmallInterface, SmallModule};
 use std::alloc::Global;
 
 /// The texts of a system.
@@ -21,40 +21,17 @@ pub struct System {
     pub sample: Reading<SmallInstance>,
 }
 
-/// The system of an interface's file.
+/// The texts of the system of an interface's file.
 ///
 /// # Errors
-/// The report of the first file that can't be loaded or read; or a failed read, or `Memory`.
-pub fn load_system<L: Library>(alloc: Global, lib: &mut L, name: &str) -> Result<System, Early>
-    ensures gives { IfOk result (λ system. IfSome (L.told lib.old) (λ files. SystemGives name.now files system)) }
-    ensures refused { IfRefused result (Reports (L.told lib.old) (SystemRefused name.now)) }
-    ensures no_words { IfRefused result (λ report. report.status ≢ Status.Words) }
-    ensures read_fault { IsReadFault result → Rose (L.faults lib.old) (L.faults lib.new) }
-    ensures same { L.told lib.new ≡ L.told lib.old }
-    ensures later { L.faults lib.old ≤ L.faults lib.new }
+/// `Refused` where one of them can't be loaded or read, `ReadFault`, and `Memory`.
+#[tactic(auto, using(sp_frame::proofs::Connective::loads_after, sp_frame::proofs::Connective::loads_refused, sp_frame::proofs::Connective::loads_gives))]
+pub fn load_system<L: Library>(alloc: Global, lib: &mut L, name: &str) -> Result<System, LoadStop>
+    ensures { Loads L.told L.faults lib.old lib.new (SystemRead name.now) result }
 {
-    let interface = load_tree(alloc, lib, name)?;
-    load_parts(alloc, lib, interface)
-}
-
-// The system of an interface, whose module and sample are loaded.
-fn load_parts<L: Library>(
-    alloc: Global,
-    lib: &mut L,
-    interface: Reading<SmallInterface>,
-) -> Result<System, Early>
-    requires module_name { IsUtf8 interface.tree.module }
-    requires sample_name { IsUtf8 interface.tree.sample }
-    ensures interface { IfOk result (λ system. system.interface ≡ interface) }
-    ensures gives { IfOk result (λ system. IfSome (L.told lib.old) (λ files. PartsGive interface.tree files system)) }
-    ensures refused { IfRefused result (Reports (L.told lib.old) (PartsRefused interface.tree)) }
-    ensures no_words { IfRefused result (λ report. report.status ≢ Status.Words) }
-    ensures read_fault { IsReadFault result → Rose (L.faults lib.old) (L.faults lib.new) }
-    ensures same { L.told lib.new ≡ L.told lib.old }
-    ensures later { L.faults lib.old ≤ L.faults lib.new }
-{
-    let module = load_named(alloc, lib, &interface.tree.module, ".special")?;
-    let sample = load_named(alloc, lib, &interface.tree.sample, ".inst")?;
+    let interface: Reading<SmallInterface> = read_file(alloc, lib, name)?;
+    let module = read_named(alloc, lib, &interface.tree.module, ".special")?;
+    let sample = read_named(alloc, lib, &interface.tree.sample, ".inst")?;
     Ok(System {
         interface,
         module,
@@ -62,31 +39,20 @@ fn load_parts<L: Library>(
     })
 }
 
-// The tree of the file that is called as a name, with an ending.
-fn load_named<T: SmallText, L: Library>(
-    alloc: Global,
-    lib: &mut L,
-    name: &Name,
-    ending: &str,
-) -> Result<Reading<T>, Early>
-    requires { IsUtf8 name.now }
-    ensures gives { IfOk result (λ read. IfSome (L.told lib.old) (λ files. ReadGives T.form (name.now ++ ending.now) files read)) }
-    ensures refused { IfRefused result (Reports (L.told lib.old) (ReadRefused T.form (name.now ++ ending.now))) }
-    ensures no_words { IfRefused result (λ report. report.status ≢ Status.Words) }
-    ensures read_fault { IsReadFault result → Rose (L.faults lib.old) (L.faults lib.new) }
-    ensures same { L.told lib.new ≡ L.told lib.old }
-    ensures later { L.faults lib.old ≤ L.faults lib.new }
+/// That the system of the interface in this file breaks no rule.
+///
+/// # Errors
+/// `Refused` where it breaks one, and `Memory`.
+pub fn judge_system(alloc: Global, file: &[u8], system: &System) -> Result<(), Stop>
+    ensures does { Does (SystemJudged file.now system.now) result }
+    ensures sound { OnOk result (IsSoundInterface system.now.interface.tree system.now.module.tree system.now.sample.tree) }
 {
-    let file = file_name(alloc, name, ending)?;
-    load_tree(alloc, lib, &file)
-}
-
-// The name with the ending.
-fn file_name(alloc: Global, name: &Name, ending: &str) -> Result<String, Memory>
-    requires { IsUtf8 name.now }
-    ensures { IfOk result (λ file. string_bytes file ≡ name.now ++ ending.now) }
-{
-    let mut file = String::from_utf8_lossy(alloc, name.bytes())?;
-    file.push_str(ending)?;
-    Ok(file)
+    if is_sound_interface(
+        &system.interface.tree,
+        &system.module.tree,
+        &system.sample.tree,
+    ) {
+        return Ok(());
+    }
+    Err(broken(alloc, file, unbuilt_malformed(system.interface.end)))
 }

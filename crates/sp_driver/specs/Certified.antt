@@ -1,0 +1,8 @@
+-- What commands certify, and which bytes spell certificates of it, for what a report is. No command certifies anything yet.
+use Rattle.std.specs.Prelude.{ℕ, List}
+
+abbrev pub Certified : Type 0
+Certified = ⊥
+
+abbrev pub spells : Certified → List ℕ → Type 0
+spells c bytes = ⊥

@@ -1,0 +1,33 @@
+//! The commands.
+
+ghost use Rattle.sp_frame.specs.Endings.{Printing};
+ghost use Rattle.sp_frame.specs.Loads.{Loads};
+ghost use Rattle.sp_driver.specs.Certified.{spells};
+ghost use Rattle.sp_driver.specs.Meant.{command_meant};
+ghost use Rattle.sp_driver.specs.Report.{CommandDone};
+
+use crate::run_command::run_command;
+use crate::words::Command;
+use sp_frame::{LoadStop, Printed};
+use sp_outside::Library;
+use std::alloc::Global;
+
+/// The lines of a command.
+///
+/// # Errors
+/// `Refused` where a step is refused, `ReadFault`, and `Memory`.
+pub fn perform<L: Library>(
+    alloc: Global,
+    command: Command<'_>,
+    lib: &mut L,
+) -> Result<Printed, LoadStop>
+    ensures { Loads L.told L.faults lib.old lib.new (λ files. Printing spells (CommandDone (command_meant command.entry) files)) result }
+{
+    match command {
+        Command::Run {
+            interface,
+            instance,
+            script,
+        } => run_command(alloc, lib, interface, instance, script),
+    }
+}

@@ -1,9 +1,7 @@
 //! The lines that several texts share.
 
-ghost use Rattle.std.specs.Prelude.{◌≡◌, [], ◌∷◌};
-ghost use Rattle.sp_grammar.specs.Codes.{name_code};
+ghost use Rattle.std.specs.Prelude.{◌≡◌, []};
 ghost use Rattle.sp_grammar.specs.Lang.{has};
-ghost use Rattle.sp_expression.specs.Contract.{expression_first};
 ghost use Rattle.sp_forms.specs.Cursors.{lookahead, Reads};
 ghost use Rattle.sp_forms.specs.Grammars.{first};
 ghost use Rattle.sp_forms.specs.Readers.{read_line, read_name};
@@ -15,20 +13,6 @@ use crate::tokens::Tokens;
 use sp_text::{Sequence, TextFault};
 use sp_tree::{FormalTree, Ident, TypeTree};
 use std::alloc::Global;
-
-/// Whether a name is next.
-pub fn begins_name(tokens: &Tokens<'_>) -> bool
-    ensures { result ≡ has (name_code ∷ []) (lookahead tokens.now) }
-{
-    tokens.is_name()
-}
-
-/// Whether an expression can begin with the next token.
-pub fn begins_expression(tokens: &Tokens<'_>) -> bool
-    ensures { result ≡ has expression_first (lookahead tokens.now) }
-{
-    tokens.begins_expression()
-}
 
 /// Whether a type can begin with the next token.
 #[tactic(auto, unfolding(crate::specs::Lines::type_line))]
@@ -77,4 +61,12 @@ pub fn names(alloc: Global, tokens: &mut Tokens<'_>) -> Result<Sequence<Ident>, 
     ensures { Reads (read_line names_line tokens.old) result tokens.new }
 {
     separated(alloc, tokens, COMMA, name)
+}
+
+/// Whether names begin with the next token.
+#[tactic(auto, unfolding(crate::specs::Lines::names_line))]
+pub fn begins_names(tokens: &Tokens<'_>) -> bool
+    ensures { result ≡ has (first [] names_line) (lookahead tokens.now) }
+{
+    tokens.is_name()
 }

@@ -10,6 +10,3 @@ pub mod tokens;
 
 pub use expr::Found;
 pub use parse::{parse_expr, read_expr};
-
-#[cfg(test)]
-mod tests;

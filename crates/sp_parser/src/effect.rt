@@ -1,20 +1,29 @@
 //! Effects, which stand in one another.
 
 ghost use Rattle.std.specs.Prelude.{◌≡◌};
+ghost use Rattle.sp_grammar.specs.Lang.{has};
 ghost use Rattle.sp_grammar.specs.Texts.{most};
-ghost use Rattle.sp_forms.specs.Cursors.{Reads};
+ghost use Rattle.sp_forms.specs.Cursors.{lookahead, Reads};
 ghost use Rattle.sp_forms.specs.Grammars.{again};
 ghost use Rattle.sp_forms.specs.Readers.{read_in, read_line};
 ghost use Rattle.sp_parser.specs.Modules.{bound_line, effects_line, forall_effect_line, if_effect_line, nested_effects};
 
 use crate::statements::statement;
-use sp_cursor::lines::{begins_expression, formal};
+use sp_cursor::lines::formal;
 use sp_cursor::marks::{COLON, ELSE, END_FORALL, END_IF, FORALL, IF, SEMICOLON, THEN};
 use sp_cursor::{Tokens, many};
 use sp_text::{MOST_EFFECT_NESTING, Sequence, TextFault};
 use sp_tree::{EffectTree, FormalTree};
 use sqlite_items::Items;
 use std::alloc::Global;
+
+/// Whether an effect begins with the next token.
+#[tactic(auto, unfolding(crate::specs::Modules::nested_effects))]
+fn begins_effect(tokens: &Tokens<'_>) -> bool
+    ensures { result ≡ has nested_effects.begin (lookahead tokens.now) }
+{
+    tokens.begins_expression()
+}
 
 /// Any number of effects, in which others stand in at most `nesting` levels.
 #[cycle(effect)]
@@ -28,7 +37,7 @@ fn effects(
 {
     let mut items = Vec::new(alloc);
     for _turn in 0..tokens.left() {
-        if !begins_expression(tokens) {
+        if !begins_effect(tokens) {
             break;
         }
         items.push(effect(alloc, tokens, nesting)?)?;
@@ -123,5 +132,5 @@ pub fn outer_effects(
 ) -> Result<Sequence<EffectTree>, TextFault>
     ensures { Reads (read_in nested_effects most.nesting effects_line tokens.old) result tokens.new }
 {
-    many(alloc, tokens, begins_expression, outer_effect)
+    many(alloc, tokens, begins_effect, outer_effect)
 }

@@ -1,18 +1,16 @@
 //! Functions.
 
-ghost use Rattle.std.specs.Prelude.{◌≡◌, [], ◌∷◌};
-ghost use Rattle.sp_grammar.specs.Codes.{word_ofun, word_ovfun, word_vfun};
+ghost use Rattle.std.specs.Prelude.{◌≡◌};
 ghost use Rattle.sp_grammar.specs.Lang.{has};
 ghost use Rattle.sp_grammar.specs.Texts.{most};
 ghost use Rattle.sp_forms.specs.Cursors.{lookahead, Reads};
-ghost use Rattle.sp_forms.specs.Grammars.{star};
+ghost use Rattle.sp_forms.specs.Grammars.{first, star};
 ghost use Rattle.sp_forms.specs.Readers.{read_in, read_line};
 ghost use Rattle.sp_parser.specs.Modules.{exception_line, exceptions_line, function_line, functions_line, marks_line, maybe_exceptions, nested_effects, operation_body, operation_line, value_body, value_function_line, value_operation_line};
 
 use crate::effect::outer_effects;
 use crate::names::{named, returned};
-use crate::statements::{exception, statement};
-use sp_cursor::lines::begins_name;
+use crate::statements::{begins_exception, exception, statement};
 use sp_cursor::marks::{
     DERIVATION, EFFECTS, EXCEPTIONS, FUNCTIONS, HIDDEN, INITIALLY, OFUN, OVFUN, SEMICOLON, VFUN,
 };
@@ -27,14 +25,14 @@ type Exceptions = Sequence<(Ident, ExprTree)>;
 fn exception_list(alloc: Global, tokens: &mut Tokens<'_>) -> Result<Exceptions, TextFault>
     ensures { Reads (read_line (star exception_line) tokens.old) result tokens.new }
 {
-    many(alloc, tokens, begins_name, exception)
+    many(alloc, tokens, begins_exception, exception)
 }
 
 /// Exceptions with their keyword, or none.
 fn maybe_exceptions(alloc: Global, tokens: &mut Tokens<'_>) -> Result<Exceptions, TextFault>
     ensures { Reads (read_line maybe_exceptions tokens.old) result tokens.new }
 {
-    section(alloc, tokens, EXCEPTIONS, begins_name, exception)
+    section(alloc, tokens, EXCEPTIONS, begins_exception, exception)
 }
 
 /// Exceptions, with their keyword.
@@ -176,8 +174,9 @@ fn function(alloc: Global, tokens: &mut Tokens<'_>) -> Result<FunDecl, TextFault
 }
 
 /// Whether a function begins with the next token.
+#[tactic(auto, unfolding(crate::specs::Modules::function_line, crate::specs::Modules::value_function_line, crate::specs::Modules::operation_line, crate::specs::Modules::value_operation_line))]
 fn begins_function(tokens: &Tokens<'_>) -> bool
-    ensures { result ≡ has (word_vfun ∷ word_ofun ∷ word_ovfun ∷ []) (lookahead tokens.now) }
+    ensures { result ≡ has (first nested_effects.begin function_line) (lookahead tokens.now) }
 {
     tokens.is(VFUN) || tokens.is(OFUN) || tokens.is(OVFUN)
 }

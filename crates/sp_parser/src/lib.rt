@@ -11,6 +11,3 @@ mod statements;
 
 pub use parse::parse_module;
 pub use sp_expression::parse_expr;
-
-#[cfg(test)]
-mod tests;

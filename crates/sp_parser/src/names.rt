@@ -70,6 +70,14 @@ pub fn header(alloc: Global, tokens: &mut Tokens<'_>) -> Result<Header, TextFaul
     })
 }
 
+/// Whether a type and a name with its formals begin with the next token.
+#[tactic(auto, unfolding(crate::specs::Modules::header_line, sp_cursor::specs::Lines::type_line))]
+pub fn begins_header(tokens: &Tokens<'_>) -> bool
+    ensures { result ≡ has (first [] header_line) (lookahead tokens.now) }
+{
+    begins_type(tokens)
+}
+
 /// The type of a value, behind an arrow.
 #[tactic(auto, unfolding(crate::specs::Modules::returned_line))]
 pub fn returned(alloc: Global, tokens: &mut Tokens<'_>) -> Result<TypeTree, TextFault>

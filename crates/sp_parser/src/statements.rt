@@ -1,11 +1,13 @@
 //! The items of the sections of a module.
 
-ghost use Rattle.std.specs.Prelude.{◌≡◌};
-ghost use Rattle.sp_forms.specs.Cursors.{Reads};
+ghost use Rattle.std.specs.Prelude.{◌≡◌, []};
+ghost use Rattle.sp_grammar.specs.Lang.{has};
+ghost use Rattle.sp_forms.specs.Cursors.{lookahead, Reads};
+ghost use Rattle.sp_forms.specs.Grammars.{first};
 ghost use Rattle.sp_forms.specs.Readers.{read_line};
 ghost use Rattle.sp_parser.specs.Modules.{definition_line, exception_line, external_line, members_line, parameter_line, statement_line, type_decl_line};
 
-use crate::names::header;
+use crate::names::{begins_header, header};
 use sp_cursor::Tokens;
 use sp_cursor::lines::names;
 use sp_cursor::marks::{COLON, DESIGNATOR, FROM, IS, LEFT_BRACE, RIGHT_BRACE, SEMICOLON};
@@ -21,6 +23,14 @@ pub fn statement(alloc: Global, tokens: &mut Tokens<'_>) -> Result<ExprTree, Tex
     let expr = tokens.expression(alloc)?;
     tokens.expect(SEMICOLON)?;
     Ok(expr)
+}
+
+/// Whether an expression and a semicolon begin with the next token.
+#[tactic(auto, unfolding(crate::specs::Modules::statement_line))]
+pub fn begins_statement(tokens: &Tokens<'_>) -> bool
+    ensures { result ≡ has (first [] statement_line) (lookahead tokens.now) }
+{
+    tokens.begins_expression()
 }
 
 /// What a type is: a designator type has no members.
@@ -49,6 +59,14 @@ pub fn type_decl(alloc: Global, tokens: &mut Tokens<'_>) -> Result<TypeDecl, Tex
     Ok(TypeDecl { name, members })
 }
 
+/// Whether the declaration of a type begins with the next token.
+#[tactic(auto, unfolding(crate::specs::Modules::type_decl_line))]
+pub fn begins_type_decl(tokens: &Tokens<'_>) -> bool
+    ensures { result ≡ has (first [] type_decl_line) (lookahead tokens.now) }
+{
+    tokens.is_name()
+}
+
 /// The declaration of a parameter.
 #[tactic(auto, unfolding(crate::specs::Modules::parameter_line))]
 pub fn parameter(alloc: Global, tokens: &mut Tokens<'_>) -> Result<Header, TextFault>
@@ -57,6 +75,14 @@ pub fn parameter(alloc: Global, tokens: &mut Tokens<'_>) -> Result<Header, TextF
     let header = header(alloc, tokens)?;
     tokens.expect(SEMICOLON)?;
     Ok(header)
+}
+
+/// Whether the declaration of a parameter begins with the next token.
+#[tactic(auto, unfolding(crate::specs::Modules::parameter_line, crate::specs::Modules::header_line, sp_cursor::specs::Lines::type_line))]
+pub fn begins_parameter(tokens: &Tokens<'_>) -> bool
+    ensures { result ≡ has (first [] parameter_line) (lookahead tokens.now) }
+{
+    begins_header(tokens)
 }
 
 /// The definition of an expression.
@@ -68,6 +94,14 @@ pub fn definition(alloc: Global, tokens: &mut Tokens<'_>) -> Result<(Header, Exp
     tokens.expect(IS)?;
     let value = statement(alloc, tokens)?;
     Ok((header, value))
+}
+
+/// Whether a definition begins with the next token.
+#[tactic(auto, unfolding(crate::specs::Modules::definition_line, crate::specs::Modules::header_line, sp_cursor::specs::Lines::type_line))]
+pub fn begins_definition(tokens: &Tokens<'_>) -> bool
+    ensures { result ≡ has (first [] definition_line) (lookahead tokens.now) }
+{
+    begins_header(tokens)
 }
 
 /// The names taken from another module.
@@ -86,6 +120,14 @@ pub fn external(
     Ok((name, names))
 }
 
+/// Whether names taken from another module begin with the next token.
+#[tactic(auto, unfolding(crate::specs::Modules::external_line))]
+pub fn begins_external(tokens: &Tokens<'_>) -> bool
+    ensures { result ≡ has (first [] external_line) (lookahead tokens.now) }
+{
+    tokens.is(FROM)
+}
+
 /// An exception.
 #[tactic(auto, unfolding(crate::specs::Modules::exception_line))]
 pub fn exception(alloc: Global, tokens: &mut Tokens<'_>) -> Result<(Ident, ExprTree), TextFault>
@@ -95,4 +137,12 @@ pub fn exception(alloc: Global, tokens: &mut Tokens<'_>) -> Result<(Ident, ExprT
     tokens.expect(COLON)?;
     let condition = statement(alloc, tokens)?;
     Ok((name, condition))
+}
+
+/// Whether an exception begins with the next token.
+#[tactic(auto, unfolding(crate::specs::Modules::exception_line))]
+pub fn begins_exception(tokens: &Tokens<'_>) -> bool
+    ensures { result ≡ has (first [] exception_line) (lookahead tokens.now) }
+{
+    tokens.is_name()
 }

@@ -5,5 +5,4 @@ use Rattle.sp_parser.specs.Modules.{exception_line}
 use Rattle.sp_parser.proofs.functions.exception_list.Goals as goal
 
 pub returns : goal.returns
-unfolding exception_line
 returns c = c.many.ensures (first [] exception_line) (read_line exception_line) (record { tells = λ i t e. e }) (record { reads = λ alloc old new r e. e.1 })

@@ -5,5 +5,5 @@ use Rattle.sp_parser.specs.Modules.{exception_line, exceptions_line, maybe_excep
 use Rattle.sp_parser.proofs.functions.maybe_exceptions.Goals as goal
 
 pub returns : goal.returns
-unfolding maybe_exceptions exceptions_line exception_line
+unfolding maybe_exceptions exceptions_line
 returns c = c.section.ensures (first [] exception_line) (read_line exception_line) (record { tells = λ i t e. e }) (record { reads = λ alloc old new r e. e.1 })

@@ -1,10 +1,9 @@
 use Rattle.std.proofs.Common.{[]}
 use Rattle.sp_forms.specs.Grammars.{first}
 use Rattle.sp_forms.specs.Readers.{read_line}
-use Rattle.sp_parser.specs.Modules.{header_line, parameter_line, parameters_line}
-use Rattle.sp_cursor.specs.Lines.{type_line}
+use Rattle.sp_parser.specs.Modules.{parameter_line, parameters_line}
 use Rattle.sp_parser.proofs.sections.parameters.Goals as goal
 
 pub returns : goal.returns
-unfolding parameters_line parameter_line header_line type_line
+unfolding parameters_line
 returns c = c.section.ensures (first [] parameter_line) (read_line parameter_line) (record { tells = λ i t e. e }) (record { reads = λ alloc old new r e. e.1 })

@@ -1,6 +1,6 @@
 ghost use Rattle.std.specs.Prelude.{◌≤◌, length};
 
-use super::parse_expr;
+use sp_expression::parse_expr;
 use sp_lexer::lex;
 use sp_text::{Limit, Malformed, Quantity, Rule, Span, TextFault};
 use sp_tree::{BinOp, ExprNode, ExprTree};

@@ -1,7 +1,7 @@
 ghost use Rattle.std.specs.Prelude.{◌≤◌, length};
 
-use super::parse_module;
 use sp_lexer::lex;
+use sp_parser::parse_module;
 use sp_text::{Span, TextFault};
 use sp_tree::{Body, EffectTree, FunDecl, Module, TypeTree};
 use std::alloc::Global;

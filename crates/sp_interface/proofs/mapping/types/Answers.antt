@@ -1,0 +1,9 @@
+use Rattle.std.proofs.Common.{[]}
+use Rattle.sp_forms.specs.Grammars.{first}
+use Rattle.sp_forms.specs.Readers.{read_line}
+use Rattle.sp_interface.specs.Mappings.{type_pair_line, types_line}
+use Rattle.sp_interface.proofs.mapping.types.Goals as goal
+
+pub returns : goal.returns
+unfolding types_line
+returns c = c.section.ensures (first [] type_pair_line) (read_line type_pair_line) (record { tells = λ i t e. e }) (record { reads = λ alloc old new r e. e.1 })

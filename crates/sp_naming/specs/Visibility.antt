@@ -1,8 +1,7 @@
 -- Which names a module sees, and what a name stands for there.
-use Rattle.std.specs.Prelude.{ℕ, ◌+◌, List, [], ◌∷◌, ◌++◌, Bool, true, false, Option, None, Some, nat_eq, unwrap_or, slice_get, if◌then◌else◌, ◌&&◌, ◌||◌}
+use Rattle.std.specs.Prelude.{ℕ, List, [], ◌∷◌, Bool, true, false, Option, None, Some, nat_eq, unwrap_or, slice_get, if◌then◌else◌, ◌&&◌, ◌||◌}
 use Rattle.std.specs.List.{flat_map}
 use Rattle.std.specs.Str.{bytes_eq}
-use Rattle.sp_tree.specs.declared.module.Module.{Module}
 use Rattle.sp_tree.specs.declared.names.Ident.{Ident}
 use Rattle.sp_naming.specs.declared.declaration.Declaration.{Declaration}
 use Rattle.sp_naming.specs.declared.declaration.Entity.{Entity}

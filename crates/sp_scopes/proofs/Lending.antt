@@ -1,9 +1,8 @@
 -- What names stand for and what is lent are the same.
-use Rattle.std.proofs.Common.{◌≡◌, refl, sym, ◌∙◌, ap, subst, arith, ℕ, zero, suc, ◌+◌, ◌≤◌, List, [], ◌∷◌, ◌++◌, length, Option, Some, None, map}
+use Rattle.std.proofs.Common.{◌≡◌, refl, sym, ◌∙◌, ap, subst, arith, ℕ, suc, ◌+◌, ◌≤◌, List, [], ◌∷◌, ◌++◌, length, Some, map}
 use Rattle.std.specs.Prelude.{◌*◌, ◌^◌, Bool, true, false, if◌then◌else◌, nat_le, slice_get}
 use Rattle.std.specs.List.{flat_map}
 use Rattle.sp_text.specs.declared.fault.Span.{Span}
-use Rattle.sp_text.specs.Violations.{in_file}
 use Rattle.sp_tree.specs.declared.expr.ExprTree.{ExprTree}
 use Rattle.sp_tree.specs.declared.interface.InterfaceTree.{InterfaceTree}
 use Rattle.sp_tree.specs.declared.interface.LatticeTree.{LatticeTree}
@@ -27,9 +26,9 @@ use Rattle.sp_scopes.specs.Heads.{function_head, function_heads, parameter_heads
 use Rattle.sp_scopes.specs.Interfaces.{scopes_broken}
 use Rattle.sp_scopes.specs.Lent.{all_definitions, all_functions, all_parameters, all_types, declared_type, definition_of, level_name, level_names, module_definitions}
 use Rattle.sp_scopes.specs.Modules.{limit_broken, over}
-use Rattle.sp_scopes.proofs.Counting.{at_place, counted_up, counts_up, entry, few, in_nothing, IsIn, made_by, made_in, makes_nothing, map_both, map_nothing, map_numbered, map_flat, map_twice, map_under, numbered_map, only_one, place_of, under_map}
+use Rattle.sp_scopes.proofs.Counting.{at_place, counted_up, counts_up, entry, few, in_nothing, IsIn, made_by, made_in, makes_nothing, map_both, map_nothing, map_numbered, map_flat, map_twice, numbered_map, only_one, place_of}
 use Rattle.sp_scopes.proofs.Laws.{within_limits}
-use Rattle.sp_scopes.proofs.Sorts.{definition_entry, definition_make, definitions_picked, function_entry, function_make, functions_picked, level_entry, levels_picked, listed_picked, param_entry, param_make, params_picked, picked, product_picked, type_entry, type_make, types_picked}
+use Rattle.sp_scopes.proofs.Sorts.{definition_entry, definitions_picked, function_entry, functions_picked, level_entry, levels_picked, listed_picked, param_entry, params_picked, picked, product_picked, type_entry, types_picked}
 
 -- no declaration is over a limit
 pub limit : (i : InterfaceTree) (ms : List Module) → scopes_broken i ms ≡ [] → (d : Declaration) → IsIn d (declarations i ms) → over d.span d.entity ≡ []

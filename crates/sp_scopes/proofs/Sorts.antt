@@ -1,6 +1,6 @@
 -- The declarations of each sort, with their numbers.
 use Rattle.std.proofs.Common.{◌≡◌, refl, sym, ◌∙◌, ap, arith, ℕ, zero, suc, ◌+◌, ◌*◌, ◌^◌, ◌≤◌, Bool, true, false, List, [], ◌∷◌, ◌++◌, length, Option, Some, None, map}
-use Rattle.std.specs.Prelude.{if◌then◌else◌, min, nat_le}
+use Rattle.std.specs.Prelude.{if◌then◌else◌, nat_le}
 use Rattle.std.specs.List.{flat_map}
 use Rattle.std.proofs.lemmas.Grind.{flat_map-append}
 use Rattle.std.proofs.lemmas.List.{append-nil}
@@ -18,7 +18,7 @@ use Rattle.sp_naming.specs.declared.declaration.Entity.{Entity}
 use Rattle.sp_naming.specs.declared.declaration.Entity.TheVariants as entity
 use Rattle.sp_naming.specs.declared.listing.Counts.{Counts}
 use Rattle.sp_naming.specs.Declarations.{counts_after, declarations, definition_declaration, function_declaration, member, members, module_declarations, modules_declarations, no_counts, param_declaration, type_declaration}
-use Rattle.sp_naming.specs.Levels.{element_levels, level, level_declarations, listed_levels, product_levels, product_name, product_or_chain}
+use Rattle.sp_naming.specs.Levels.{element_levels, level, level_declarations, listed_levels, product_levels, product_name}
 use Rattle.sp_naming.specs.Names.{name_of}
 use Rattle.sp_naming.specs.Numbers.{after, counted, numbered}
 use Rattle.sp_scopes.proofs.Counting.{counted_append, counted_up, entry, made_none, made_of, map_both, numbered_append, numbered_map}

@@ -1,5 +1,5 @@
 -- What may be taken for granted of the names of an interface, where they break nothing.
-use Rattle.std.specs.Prelude.{◌≡◌, ℕ, List, [], length, Option, Some, slice_get}
+use Rattle.std.specs.Prelude.{◌≡◌, ℕ, List, [], length, Some, slice_get}
 use Rattle.sp_tree.specs.declared.interface.InterfaceTree.{InterfaceTree}
 use Rattle.sp_tree.specs.declared.module.Module.{Module}
 use Rattle.sp_naming.specs.declared.declaration.Entity.{Entity}

@@ -1,4 +1,4 @@
-use Rattle.std.proofs.Common.{◌≡◌, sym, ◌∙◌, ap}
+use Rattle.std.proofs.Common.{sym, ◌∙◌, ap}
 use Rattle.sp_text.specs.Violations.{sooner_in_files}
 use Rattle.sp_text.proofs.Firsts.{first_by_none}
 use Rattle.sp_scopes.specs.Interfaces.{scopes_broken}

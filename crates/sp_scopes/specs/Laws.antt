@@ -25,8 +25,8 @@ abbrev pub FoundAreLent : Type 0
 FoundAreLent = (i : InterfaceTree) (ms : List Module) → scopes_broken i ms ≡ [] →
     (k : ℕ) (x : List ℕ) (e : Entity) → entity_at (scopes_of i ms) k x ≡ Some e → IsLent (scopes_of i ms) x e
 
--- All that is lent is what its name stands for in the interface, which sees all; so no two entities have one name, and each sort is
--- numbered in the order of declaration.
+-- All that is lent is what its name stands for in the interface, which sees all; so no two entities have one name, and each
+-- sort is numbered in the order of declaration.
 abbrev pub LentAreFound : Type 0
 LentAreFound = (i : InterfaceTree) (ms : List Module) → scopes_broken i ms ≡ [] →
     (x : List ℕ) (e : Entity) → IsLent (scopes_of i ms) x e → entity_at (scopes_of i ms) (length ms) x ≡ Some e

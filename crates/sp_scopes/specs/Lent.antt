@@ -1,5 +1,6 @@
--- What is lent of the names of an interface: the declared types, the heads of all that is called, the definitions with their texts, the
--- levels and their declared order. Each list is in the order of declaration, so that an entity's number is its place.
+-- What is lent of the names of an interface: the declared types, the heads of all that is called, the definitions with
+-- their texts, the levels and their declared order. Each list is in the order of declaration, so that an entity's number
+-- is its place.
 use Rattle.std.specs.Prelude.{ℕ, List, [], ◌∷◌, ◌++◌, map, length, Option, None, Some}
 use Rattle.std.specs.List.{flat_map}
 use Rattle.sp_tree.specs.declared.expr.ExprTree.{ExprTree}

@@ -7,7 +7,8 @@ pub fn found_are_lent()
     ensures { FoundAreLent }
 {}
 
-/// What is lent is found by its name: no two entities have one name, and each sort is numbered in the order of declaration.
+/// What is lent is found by its name: no two entities have one name, and each sort is numbered in the order of its
+/// declaration.
 pub fn lent_are_found()
     ensures { LentAreFound }
 {}

@@ -1,16 +1,14 @@
 -- One more name in an index, and what an index says of the declarations.
-use Rattle.std.proofs.Common.{◌≡◌, refl, sym, ◌∙◌, ap, subst, rules, arith, ℕ, zero, suc, ◌+◌, ◌<◌, List, [], ◌∷◌, ◌++◌, Bool, true, false, Option, Some, None, take, length, get_or, append_assoc, cond}
+use Rattle.std.proofs.Common.{◌≡◌, refl, sym, ◌∙◌, ap, subst, arith, ℕ, suc, ◌+◌, List, [], ◌∷◌, ◌++◌, Bool, true, false, Option, Some, None, length, append_assoc, cond}
 use Rattle.std.specs.Prelude.{if◌then◌else◌, is_some, map, slice_get, ◌||◌}
 use Rattle.std.specs.Map.{lookup}
 use Rattle.std.specs.List.{find, list_any, position_from}
 use Rattle.std.specs.Option.{option_or}
 use Rattle.std.specs.Str.{bytes_eq}
 use Rattle.std.specs.declared.vec.Vec.{Vec}
-use Rattle.std.proofs.lemmas.List.{take_more, append-nil}
-use Rattle.std.proofs.lemmas.Grind.{common_steps}
+use Rattle.std.proofs.lemmas.List.{append-nil}
 use Rattle.std.proofs.lemmas.Slice.Eq.{bytes_eq-Decides}
 use Rattle.indexmap.specs.IndexMap.{insert_entry}
-use Rattle.sp_text.specs.declared.violation.FileViolation.{FileViolation}
 use Rattle.sp_text.specs.Violations.{in_file}
 use Rattle.sp_tree.specs.declared.names.Ident.{Ident}
 use Rattle.sp_naming.specs.declared.declaration.Declaration.{Declaration}

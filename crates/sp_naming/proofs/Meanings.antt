@@ -1,8 +1,8 @@
 -- Where no name is declared twice, each declaration is what its name stands for, and no two have one name. For all that asks what
 -- names stand for.
 use Rattle.std.proofs.Common.{◌≡◌, refl, sym, ◌∙◌, ap, subst, arith, ℕ, zero, suc, ◌+◌, List, [], ◌∷◌, ◌++◌, Bool, true, false, Option, Some, None, length, length-append, append_assoc, cond}
-use Rattle.std.specs.Prelude.{is_some, map, slice_get, if◌then◌else◌}
-use Rattle.std.specs.List.{find, list_any, position_from}
+use Rattle.std.specs.Prelude.{is_some, map, slice_get}
+use Rattle.std.specs.List.{position_from}
 use Rattle.std.specs.Option.{option_or}
 use Rattle.std.specs.Str.{bytes_eq}
 use Rattle.std.proofs.lemmas.Slice.Eq.{bytes_eq-Decides}

@@ -1,5 +1,5 @@
 -- All that an interface and its modules declare, as one list in the order in which it is judged.
-use Rattle.std.specs.Prelude.{ℕ, ◌+◌, List, [], ◌∷◌, ◌++◌, length, Option, None, Some}
+use Rattle.std.specs.Prelude.{ℕ, List, [], ◌∷◌, ◌++◌, length, Option, None, Some}
 use Rattle.sp_tree.specs.declared.interface.InterfaceTree.{InterfaceTree}
 use Rattle.sp_tree.specs.declared.expr.ExprTree.{ExprTree}
 use Rattle.sp_tree.specs.declared.module.FunDecl.{FunDecl}

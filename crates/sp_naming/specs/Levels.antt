@@ -1,5 +1,5 @@
 -- The names of levels: those that a lattice lists, or those of the product of a chain and categories.
-use Rattle.std.specs.Prelude.{ℕ, zero, suc, ◌+◌, ◌*◌, ◌/◌, ◌%◌, ◌^◌, ◌==◌, List, [], ◌∷◌, ◌++◌, Bool, None, length, if◌then◌else◌, nat_le}
+use Rattle.std.specs.Prelude.{ℕ, zero, suc, ◌+◌, ◌*◌, ◌/◌, ◌%◌, ◌^◌, ◌==◌, List, [], ◌∷◌, ◌++◌, None, length, if◌then◌else◌, nat_le}
 use Rattle.sp_text.specs.declared.limits.TheConstants.{MOST_LEVELS}
 use Rattle.sp_tree.specs.declared.interface.LatticeTree.{LatticeTree}
 use Rattle.sp_tree.specs.declared.interface.LatticeTree.TheVariants as lattice

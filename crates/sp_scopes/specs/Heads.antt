@@ -1,6 +1,5 @@
 -- What headers declare, where they break nothing: the types of formals and of values, and the sort of what is declared.
-use Rattle.std.specs.Prelude.{ℕ, List, [], ◌∷◌, ◌++◌, map, Option, None, Some}
-use Rattle.std.specs.List.{flat_map}
+use Rattle.std.specs.Prelude.{ℕ, List, map, Option, None, Some}
 use Rattle.sp_values.specs.declared.value.Ty.{Ty}
 use Rattle.sp_values.specs.declared.value.Ty.TheVariants as ty
 use Rattle.sp_tree.specs.declared.expr.ExprTree.{ExprTree}
@@ -9,7 +8,6 @@ use Rattle.sp_tree.specs.declared.module.Body.TheVariants as body
 use Rattle.sp_tree.specs.declared.module.FunDecl.{FunDecl}
 use Rattle.sp_tree.specs.declared.module.Header.{Header}
 use Rattle.sp_tree.specs.declared.module.Module.{Module}
-use Rattle.sp_tree.specs.declared.module.TypeDecl.{TypeDecl}
 use Rattle.sp_tree.specs.declared.names.FormalTree.{FormalTree}
 use Rattle.sp_tree.specs.declared.names.Ident.{Ident}
 use Rattle.sp_tree.specs.declared.names.TypeTree.{TypeTree}
@@ -17,7 +15,6 @@ use Rattle.sp_tree.specs.declared.names.TypeTree.TheVariants as written
 use Rattle.sp_naming.specs.declared.declaration.Declaration.{Declaration}
 use Rattle.sp_naming.specs.declared.declaration.Entity.{Entity}
 use Rattle.sp_naming.specs.declared.declaration.Entity.TheVariants as entity
-use Rattle.sp_naming.specs.Numbers.{numbered}
 use Rattle.sp_naming.specs.Visibility.{taken}
 use Rattle.sp_scopes.specs.declared.heads.Head.{Head}
 use Rattle.sp_scopes.specs.declared.heads.Local.{Local}

@@ -1,4 +1,4 @@
-use Rattle.std.proofs.Common.{◌≡◌, sym, ◌∙◌, ap, subst, ◌++◌, ◌∷◌, [], take, length, ◌+◌, arith, length-take}
+use Rattle.std.proofs.Common.{◌≡◌, ◌∙◌, ap, subst, ◌++◌, ◌∷◌, [], take, length, ◌+◌, arith, length-take}
 use Rattle.sp_naming.specs.Names.{at_name, IsIndex}
 use Rattle.sp_naming.proofs.Gathering.{next_item}
 use Rattle.sp_naming.proofs.names.indexed_names.Goals as goal

@@ -62,11 +62,12 @@ abbrev pub seen : ℕ → List (List ℕ) → Option Declaration → Option Decl
 seen k names None = None
 seen k names (Some d) = if sees k names d then Some d else None
 
+-- what a name stands for in module k, which takes these names, or, where none are given, in the interface
+abbrev pub find_by : List Declaration → ℕ → List ℕ → Option (List (List ℕ)) → Option Declaration
+find_by ds k x None = named ds x
+find_by ds k x (Some names) = seen k names (named ds x)
+
 -- What a name stands for in module k, where `takes` has what each module takes; the number after the last module's is the interface,
 -- which sees all.
 abbrev pub find_in : List Declaration → List (List (List ℕ)) → ℕ → List ℕ → Option Declaration
-find_in ds takes k x = by (slice_get takes k)
-  where
-    by : Option (List (List ℕ)) → Option Declaration
-    by None = named ds x
-    by (Some names) = seen k names (named ds x)
+find_in ds takes k x = find_by ds k x (slice_get takes k)

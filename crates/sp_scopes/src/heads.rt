@@ -175,7 +175,8 @@ pub fn parameter_heads(
     Ok(heads)
 }
 
-fn plain_head(
+/// The head of a parameter or a definition.
+pub fn plain_head(
     alloc: Global,
     declared: &Declared,
     k: u16,

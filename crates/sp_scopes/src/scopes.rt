@@ -1,6 +1,6 @@
 //! What every name stands for.
 
-ghost use Rattle.std.specs.Prelude.{◌≡◌, IfOk, map, option_copied};
+ghost use Rattle.std.specs.Prelude.{◌≡◌, IfOk, length, option_copied};
 ghost use Rattle.sp_text.specs.Violations.{JudgesFiles};
 ghost use Rattle.sp_text.specs.declared.fault.TextFault.TheVariants as fault;
 ghost use Rattle.sp_naming.specs.Visibility.{find_in};
@@ -8,10 +8,13 @@ ghost use Rattle.sp_scopes.specs.Interfaces.{scopes_broken};
 ghost use Rattle.sp_scopes.specs.Scopes as spec_scopes;
 ghost use Rattle.sp_scopes.specs.Scopes.{entity_at, scopes_of};
 
+use crate::heads::Head;
 use crate::interface::judge_names;
-use sp_naming::{Declaration, Declared, Entity, Names, seen, taken};
-use sp_text::{Memory, Sequence, SpecFault, TextFault};
-use sp_tree::{Ident, InterfaceTree, Module};
+use crate::lent::{DeclaredType, Definition, LevelOrder, all_types, level_names, level_order};
+use crate::parts::{Parts, parts_of};
+use sp_naming::{Declaration, Declared, Entity, Names, seen};
+use sp_text::{Memory, Name, Sequence, SpecFault, TextFault};
+use sp_tree::{InterfaceTree, Module};
 use sqlite_items::at;
 use std::alloc::Global;
 
@@ -22,6 +25,18 @@ pub struct Scopes {
     pub declared: Declared,
     /// For each module the names that it takes from others.
     pub takes: Sequence<Names>,
+    /// The declared types by number.
+    pub types: Sequence<DeclaredType>,
+    /// The parameters by number.
+    pub parameters: Sequence<Head>,
+    /// The definitions by number.
+    pub definitions: Sequence<Definition>,
+    /// The functions by number.
+    pub functions: Sequence<Head>,
+    /// The names of the levels by number.
+    pub levels: Sequence<Name>,
+    /// The declared order of the levels.
+    pub order: LevelOrder,
 }
 
 fn out_of_memory() -> SpecFault
@@ -33,20 +48,35 @@ fn out_of_memory() -> SpecFault
     }
 }
 
-// What each module takes.
-fn all_taken(
+// All that is known of the names, by their declarations.
+fn scopes_by(
     alloc: Global,
-    declared: &Declared,
-    names: &[Ident],
+    declared: Declared,
+    interface: &InterfaceTree,
     modules: &[Module],
-) -> Result<Vec<Names>, Memory>
-    ensures { IfOk result (λ takes. takes.items ≡ map (spec_scopes.module_takes declared.now names.now) modules.now) }
+) -> Result<Scopes, Memory>
+    ensures { IfOk result (λ s. s ≡ spec_scopes.scopes_by declared interface.now modules.now) }
 {
-    let mut takes = Vec::new(alloc);
-    for text in modules {
-        takes.push(taken(alloc, declared, names, text.externals.items())?)?;
-    }
-    Ok(takes)
+    let parts = parts_of(alloc, &declared, interface.modules.items(), modules)?;
+    let types = all_types(alloc, modules)?;
+    let levels = level_names(alloc, declared.items())?;
+    let order = level_order(alloc, &declared, &interface.lattice)?;
+    let Parts {
+        takes,
+        parameters,
+        definitions,
+        functions,
+    } = parts;
+    Ok(Scopes {
+        declared,
+        takes: Sequence::new(takes),
+        types: Sequence::new(types),
+        parameters: Sequence::new(parameters),
+        definitions: Sequence::new(definitions),
+        functions: Sequence::new(functions),
+        levels: Sequence::new(levels),
+        order,
+    })
 }
 
 impl Scopes {
@@ -69,13 +99,59 @@ impl Scopes {
             Some(found) => return Err(SpecFault::from(found)),
             None => {}
         }
-        match all_taken(alloc, &declared, interface.modules.items(), modules) {
-            Ok(takes) => Ok(Scopes {
-                declared,
-                takes: Sequence::new(takes),
-            }),
+        match scopes_by(alloc, declared, interface, modules) {
+            Ok(scopes) => Ok(scopes),
             Err(_) => Err(out_of_memory()),
         }
+    }
+
+    /// The declared types, by number.
+    pub fn types(&self) -> &[DeclaredType]
+        ensures { result.now ≡ self.now.types }
+    {
+        self.types.items()
+    }
+
+    /// The heads of the parameters, by number.
+    pub fn parameters(&self) -> &[Head]
+        ensures { result.now ≡ self.now.parameters }
+    {
+        self.parameters.items()
+    }
+
+    /// The definitions with their texts, by number.
+    pub fn definitions(&self) -> &[Definition]
+        ensures { result.now ≡ self.now.definitions }
+    {
+        self.definitions.items()
+    }
+
+    /// The heads of the functions, by number.
+    pub fn functions(&self) -> &[Head]
+        ensures { result.now ≡ self.now.functions }
+    {
+        self.functions.items()
+    }
+
+    /// The names of the levels, by number.
+    pub fn levels(&self) -> &[Name]
+        ensures { result.now ≡ self.now.levels }
+    {
+        self.levels.items()
+    }
+
+    /// The declared order of the levels.
+    pub fn order(&self) -> &LevelOrder
+        ensures { result.now ≡ self.now.order }
+    {
+        &self.order
+    }
+
+    /// How many modules there are; the number of the interface itself, for `find`.
+    pub fn modules(&self) -> usize
+        ensures { result ≡ length self.now.takes }
+    {
+        self.takes.items().len()
     }
 
     /// What the name stands for in this module, where it is visible there. A number that is no module's stands for the

@@ -1,8 +1,7 @@
 use Rattle.std.proofs.Common.{◌≡◌, take}
 use Rattle.std.specs.List.{flat_map}
 use Rattle.sp_text.specs.Violations.{first}
-use Rattle.sp_scopes.specs.Headers.{asked}
-use Rattle.sp_scopes.specs.Interfaces.{is_level, level_rule}
+use Rattle.sp_scopes.specs.Interfaces.{level_rule}
 use Rattle.sp_scopes.proofs.interface.chain_broken.Given as goal
 
 abbrev pub invariant-loop-x : goal.invariant-loop-x

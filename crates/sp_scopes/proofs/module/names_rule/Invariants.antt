@@ -1,7 +1,7 @@
 use Rattle.std.proofs.Common.{◌≡◌, take}
 use Rattle.std.specs.List.{flat_map}
 use Rattle.sp_text.specs.Violations.{first}
-use Rattle.sp_scopes.specs.Modules.{external_rule, name_rule}
+use Rattle.sp_scopes.specs.Modules.{name_rule}
 use Rattle.sp_scopes.proofs.module.names_rule.Given as goal
 
 abbrev pub invariant-loop-x : goal.invariant-loop-x

@@ -1,18 +1,12 @@
-use Rattle.std.proofs.Common.{◌≡◌, sym, ◌∙◌, ℕ, List}
-use Rattle.std.specs.Prelude.{map}
+use Rattle.std.proofs.Common.{◌≡◌, sym, ◌∙◌, ap}
 use Rattle.sp_text.specs.Violations.{sooner_in_files}
 use Rattle.sp_text.proofs.Firsts.{first_by_none}
-use Rattle.sp_naming.specs.declared.declaration.Declaration.{Declaration}
 use Rattle.sp_scopes.specs.Interfaces.{scopes_broken}
-use Rattle.sp_scopes.specs.Scopes.{module_takes}
-use Rattle.sp_scopes.specs.declared.scopes.Scopes.{Scopes}
+use Rattle.sp_scopes.specs.Scopes.{scopes_by}
 use Rattle.sp_scopes.proofs.scopes.Scopes.declare.Goals as goal
 
-pub returns-in-Ok-all_taken : goal.returns-in-Ok-all_taken
-returns-in-Ok-all_taken c =
+pub returns-in-Ok-scopes_by : goal.returns-in-Ok-scopes_by
+returns-in-Ok-scopes_by c =
     let i = c.args.interface.now in
     let ms = c.args.modules.now in
-    let all = c.in-Ok.ensures.declared in
-    let takes = c.new.ensures ∙ c.in-Ok-all_taken.ensures ∙ (λ j. map (module_takes (all j) (c.items.ensures j)) ms) in
-    let made : List Declaration → List (List (List ℕ)) → Scopes = λ ds ts. record { declared = ds; takes = ts } in
-    (first_by_none sooner_in_files (scopes_broken i ms) (sym c.in-Ok.ensures.broken ∙ c.in-None.is), (λ j. made (all j) (takes j)))
+    (first_by_none sooner_in_files (scopes_broken i ms) (sym c.in-Ok.ensures.broken ∙ c.in-None.is), c.in-Ok-scopes_by.ensures ∙ ap (λ ds. scopes_by ds i ms) c.in-Ok.ensures.declared)

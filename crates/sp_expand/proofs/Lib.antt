@@ -1,0 +1,9 @@
+pub mod Limits
+pub mod TreeLemmas
+pub mod Within
+pub mod Joined
+pub mod Moved
+pub mod SizePut
+pub mod Scoped
+pub mod PutTyped
+pub mod PutValued

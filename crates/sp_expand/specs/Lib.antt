@@ -1,0 +1,4 @@
+pub mod Expansion
+pub mod Sizes
+pub mod Parts
+pub mod Laws

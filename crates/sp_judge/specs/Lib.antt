@@ -1,0 +1,4 @@
+pub mod Visible
+pub mod Names
+pub mod Translation
+pub mod Broken

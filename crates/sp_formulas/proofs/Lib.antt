@@ -1,0 +1,7 @@
+pub mod Alls
+pub mod Lists
+pub mod TupleLemmas
+pub mod GeneratedLemmas
+pub mod WayLemmas
+pub mod TypedLemmas
+pub mod DraftLemmas

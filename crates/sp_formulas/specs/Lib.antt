@@ -1,0 +1,11 @@
+pub mod Moves
+pub mod References
+pub mod Items
+pub mod Assertions
+pub mod Formulas
+pub mod Limits
+pub mod Typed
+pub mod Generated
+pub mod Steps
+pub mod Children
+pub mod Drafts

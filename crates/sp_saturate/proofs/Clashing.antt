@@ -1,10 +1,9 @@
 -- A clash is one the other way round.
-use Rattle.std.proofs.Common.{◌≡◌, ℕ, ◌&&◌, not, Bool, true, false, eqb, ltb, cond, refl, sym, ap, ◌∙◌, Option, Some, None}
+use Rattle.std.proofs.Common.{◌≡◌, ℕ, not, Bool, true, false, ltb, cond, refl, sym, ap, ◌∙◌, Some, None}
 use Rattle.sp_values.specs.declared.value.Value.{Value}
 use Rattle.sp_pool.specs.declared.node.Head.{Head}
 use Rattle.sp_pool.specs.declared.node.Head.TheVariants.{Const}
 use Rattle.sp_rules.specs.Terms.{Terms, count, node_at}
-use Rattle.sp_rules.specs.Table.{in_range}
 use Rattle.sp_rules.specs.declared.fact.Fact.TheVariants.{Eq}
 use Rattle.sp_saturate.specs.Front.{turned}
 use Rattle.sp_saturate.proofs.Parts.{no_step}

@@ -1,25 +1,23 @@
 -- A round that finds nothing leaves a closed set.
-use Rattle.std.proofs.Common.{◌≡◌, ℕ, ◌+◌, ◌<◌, ◌≤◌, ◌⊎◌, ⊎_elim, ◌||◌, ◌&&◌, not, Bool, true, false, cond, eqb, ltb, Option, Some, None, refl, sym, ap, ◌∙◌, subst, inl, inr, arith}
+use Rattle.std.proofs.Common.{◌≡◌, ℕ, ◌<◌, ◌≤◌, ◌⊎◌, ⊎_elim, ◌&&◌, Bool, true, false, cond, eqb, ltb, Option, Some, None, refl, sym, ap, ◌∙◌, subst, inl, inr, arith}
 use Rattle.std.proofs.lemmas.Bool.{eqb-true}
 use Rattle.std.proofs.lemmas.Bool.Decides.{Decides-ltb}
 use Rattle.sp_values.specs.declared.value.Value.{Value}
 use Rattle.sp_values.specs.declared.value.Op.TheVariants.{Add, Sub, Mul, And, Or}
 use Rattle.sp_pool.specs.declared.node.Head.{Head}
 use Rattle.sp_pool.specs.declared.node.Head.TheVariants.{Const, Two}
-use Rattle.sp_rules.specs.Terms.{Terms, count, arg, node_at, is_part, gives, computes, is_integer, is_arithmetic, is_two, is_not}
-use Rattle.sp_rules.specs.Table.{lack_of, rule_of, fits, premises, in_range, are_terms, is_formed, fits_by, needs, premises_by, none}
-use Rattle.sp_rules.specs.Follows.{IsPremise}
+use Rattle.sp_rules.specs.Terms.{Terms, count, arg, node_at, is_part, gives, computes, is_arithmetic, is_two, is_not}
+use Rattle.sp_rules.specs.Table.{rule_of, fits, premises, in_range, fits_by, premises_by, none}
 use Rattle.sp_rules.specs.Laws.{IsClosed}
 use Rattle.sp_rules.specs.declared.fact.Fact.{Fact}
 use Rattle.sp_rules.specs.declared.fact.Fact.TheVariants.{Eq, Le}
 use Rattle.sp_rules.specs.declared.fact.Step.{Step}
-use Rattle.sp_rules.specs.declared.fact.Needs.{Needs}
 use Rattle.sp_rules.specs.declared.fact.Rule.{Rule}
 use Rattle.sp_rules.specs.declared.fact.Rule.TheVariants.{K1, K2, K3, K4, K5, K6, K7, K8, K9, K10, K11, K12, K13, K14, K15, K16, K17, K18, K19, K20, K21, K22, K23}
-use Rattle.sp_rules.proofs.Steps.{AreMet, IsReady, ready, no_lack}
+use Rattle.sp_rules.proofs.Steps.{AreMet, IsReady, ready}
 use Rattle.sp_saturate.specs.Steps.{on}
-use Rattle.sp_saturate.specs.Trail.{Found, is_new}
-use Rattle.sp_saturate.specs.Gaps.{IsOld, simple, EqualIsOld, BelowIsOld, RowsAreOld, FormIsOld, TruthIsOld, TruthsAreOld, SumsAreOld, PairIsOld, TermIsOld}
+use Rattle.sp_saturate.specs.Trail.{Found}
+use Rattle.sp_saturate.specs.Gaps.{IsOld, simple, PairIsOld, TermIsOld}
 use Rattle.sp_saturate.proofs.Old.{settled}
 use Rattle.sp_rules.proofs.FactLemmas.{both_hold, one_holds}
 

@@ -1,22 +1,21 @@
 -- What follows from given facts is what a closed trail has.
-use Rattle.std.proofs.Common.{◌≡◌, ℕ, zero, suc, ◌+◌, ◌-◌, ◌<◌, ◌≤◌, ◌⊎◌, ⊎_elim, ◌||◌, ◌&&◌, not, Bool, true, false, cond, eqb, ltb, List, [], ◌∷◌, ◌++◌, length, take, drop, get_or, refl, sym, ap, ◌∙◌, subst, inl, inr, arith, add-one}
-use Rattle.std.specs.List.{list_any}
+use Rattle.std.proofs.Common.{◌≡◌, ℕ, zero, suc, ◌+◌, ◌-◌, ◌<◌, ◌≤◌, ◌⊎◌, ⊎_elim, ◌||◌, ◌&&◌, not, Bool, true, false, cond, eqb, ltb, List, [], ◌∷◌, ◌++◌, length, take, drop, get_or, refl, sym, ap, ◌∙◌, subst, arith, add-one}
 use Rattle.std.specs.Prelude.{All, IsTrue, slice_index}
 use Rattle.std.proofs.lemmas.List.Elements.{All-append}
-use Rattle.std.proofs.lemmas.Bool.{eq-eqb, cases_lt}
+use Rattle.std.proofs.lemmas.Bool.{eq-eqb}
 use Rattle.std.proofs.lemmas.Bool.Decides.{Decides-ltb}
 use Rattle.std.proofs.lemmas.List.{length-append, length-take-le, take-take, take_more, take-append-drop, take-append-le, append_assoc, get_or-take, get_or_append_left}
 use Rattle.std.proofs.lemmas.List.Folds.{list_any-append}
 use Rattle.std.proofs.Math.Seq.{take-length, take-append_seam, get_or-append_seam}
 use Rattle.sp_rules.specs.Terms.{Terms, count}
-use Rattle.sp_rules.specs.Table.{lack_of, in_range}
-use Rattle.sp_rules.specs.Follows.{Follows, IsPremise, start, step}
-use Rattle.sp_rules.specs.Laws.{IsClosed, AreIn}
+use Rattle.sp_rules.specs.Table.{in_range}
+use Rattle.sp_rules.specs.Follows.{Follows, start}
+use Rattle.sp_rules.specs.Laws.{IsClosed}
 use Rattle.sp_rules.specs.declared.fact.Fact.{Fact}
 use Rattle.sp_rules.specs.declared.fact.Fact.TheVariants.{Eq, Le}
 use Rattle.sp_rules.specs.declared.fact.Step.{Step}
 use Rattle.sp_rules.proofs.Steps.{sound, has_all, follows_more}
-use Rattle.sp_saturate.specs.Steps.{on, given_on, given, step_at, IsFound, AreFound}
+use Rattle.sp_saturate.specs.Steps.{on, given_on, given, step_at, AreFound}
 use Rattle.sp_saturate.specs.Trail.{Found, Extends, with_given}
 use Rattle.sp_saturate.specs.Situations.{IsLevel, AreKept}
 use Rattle.sp_rules.specs.Questions.{IsQuestion, Question, is_truth_below}

@@ -4,4 +4,5 @@ mod Levels
 mod Old
 mod Closed
 mod Parts
+mod Counted
 mod Clashing

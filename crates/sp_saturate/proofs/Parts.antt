@@ -1,5 +1,5 @@
 -- The steps of a trail that aren't given.
-use Rattle.std.proofs.Common.{◌≡◌, ℕ, ◌+◌, ◌<◌, ◌≤◌, ◌⊎◌, ⊎_elim, ◌||◌, ◌&&◌, Bool, true, false, eqb, List, [], ◌∷◌, ◌++◌, length, take, Option, Some, None, cond, Result, Ok, Err, IfOk, refl, sym, ap, ◌∙◌, subst, inl, inr, arith, add-one}
+use Rattle.std.proofs.Common.{◌≡◌, ℕ, ◌+◌, ◌<◌, ◌≤◌, ◌⊎◌, ⊎_elim, ◌||◌, ◌&&◌, Bool, true, false, eqb, List, [], ◌∷◌, ◌++◌, length, take, Option, Some, None, cond, Result, Ok, Err, IfOk, refl, sym, ap, ◌∙◌, subst, inl, inr, arith}
 use Rattle.std.proofs.lemmas.List.{length-append, take_more, take-append-le, get_or_append_left}
 use Rattle.std.proofs.Math.Seq.{take-append_seam, take-length, get_or-append_seam}
 use Rattle.std.proofs.lemmas.Bool.{eq-eqb}
@@ -11,15 +11,15 @@ use Rattle.sp_rules.specs.declared.fact.Step.{Step}
 use Rattle.sp_rules.proofs.Steps.{lacks_no_more, lacks_nothing, no_lack}
 use Rattle.std.proofs.lemmas.Bool.Decides.{Decides-ltb}
 use Rattle.sp_rules.specs.Terms.{count}
-use Rattle.sp_saturate.specs.Steps.{on, given_on, given, step_at, IsFound, AreFound}
+use Rattle.sp_saturate.specs.Steps.{on, given_on, given, step_at, AreFound}
 use Rattle.sp_saturate.specs.Trail.{Found}
-use Rattle.sp_saturate.specs.Accepted.{AreAccepted, EndInClash}
+use Rattle.sp_saturate.specs.Accepted.{AreAccepted}
 use Rattle.sp_saturate.specs.Front.{AreFront, turned}
 use Rattle.sp_saturate.proofs.Trails.{given_on-append}
 use Rattle.sp_saturate.proofs.Levels.{given_at, given-none, given_in_front}
 use Rattle.sp_rules.specs.Clash.{is_clash}
 use Rattle.sp_rules.specs.Facts.{is_fact}
-use Rattle.sp_rules.proofs.FactLemmas.{is_fact-true, is_fact-itself, both_hold, both_true, first_holds, second_holds, one_holds}
+use Rattle.sp_rules.proofs.FactLemmas.{is_fact-true, both_hold, both_true, first_holds, second_holds, one_holds}
 use Rattle.sp_saturate.proofs.StepLemmas.{on-append, on-none}
 
 abbrev pub no_step : Option Step

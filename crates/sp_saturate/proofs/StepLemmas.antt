@@ -1,5 +1,5 @@
 -- The facts of a list of steps, and steps that are accepted over more facts. Public: for all who speak of such steps.
-use Rattle.std.proofs.Common.{◌≡◌, ℕ, zero, suc, ◌<◌, ◌||◌, ◌++◌, ◌∷◌, Bool, true, false, List, [], length, take, refl, sym, ap, ◌∙◌, ⊎_elim, arith}
+use Rattle.std.proofs.Common.{◌≡◌, ℕ, zero, suc, ◌<◌, ◌||◌, ◌++◌, ◌∷◌, Bool, true, false, List, [], length, take, refl, ap, ◌∙◌, ⊎_elim, arith}
 use Rattle.std.proofs.lemmas.List.Folds.{list_any-append}
 use Rattle.sp_rules.specs.Facts.{is_fact}
 use Rattle.sp_rules.specs.Terms.{Terms}

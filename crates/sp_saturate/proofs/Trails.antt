@@ -1,7 +1,7 @@
 -- Trails with one step more, or with the last ones taken away.
-use Rattle.std.proofs.Common.{◌≡◌, ℕ, zero, suc, ◌+◌, ◌-◌, ◌*◌, ◌<◌, ◌≤◌, ◌||◌, ◌&&◌, ◌⊎◌, ⊎_elim, not, Bool, true, false, cond, eqb, ltb, List, [], ◌∷◌, ◌++◌, length, take, map, get_or, Option, Some, None, refl, sym, ap, ◌∙◌, subst, inl, inr, arith}
-use Rattle.std.specs.List.{list_any, slice_get, sum_by}
-use Rattle.std.proofs.lemmas.Bool.{eqb-true, eq-eqb, cases_lt}
+use Rattle.std.proofs.Common.{◌≡◌, ℕ, suc, ◌+◌, ◌-◌, ◌*◌, ◌<◌, ◌≤◌, ◌||◌, ◌&&◌, ◌⊎◌, ⊎_elim, not, Bool, true, false, eqb, List, [], ◌∷◌, ◌++◌, length, take, map, Some, refl, sym, ap, ◌∙◌, subst, arith}
+use Rattle.std.specs.List.{slice_get}
+use Rattle.std.proofs.lemmas.Bool.{eqb-true}
 use Rattle.std.proofs.lemmas.Bool.Decides.{Decides-ltb}
 use Rattle.std.proofs.lemmas.List.{length-append, length-take-le, length-map, map-append, take-map, take-take, take-append-le, get_or_append_left, get_or-take, get_or-map, take_more}
 use Rattle.std.proofs.lemmas.List.Folds.{list_any-append}
@@ -10,11 +10,11 @@ use Rattle.std.proofs.lemmas.Option.{get_or_from_slice_get, slice_get_within}
 use Rattle.sp_rules.proofs.Steps.{ready, no_lack}
 use Rattle.sp_rules.specs.Table.{rule_of, fits_by, is_formed}
 use Rattle.std.proofs.Math.Seq.{get_or-append_seam, take-append_seam, take-length}
-use Rattle.sp_bits.specs.Table.{Bits, is_pair, has, empty_table}
+use Rattle.sp_bits.specs.Table.{Bits, has, empty_table}
 use Rattle.sp_pool.specs.Records.{Records, HasRoom, words_held}
 use Rattle.sp_pool.proofs.NodeLaws.{get_pushed, get_taken}
 use Rattle.sp_rules.specs.Terms.{Terms, count, AreSmall}
-use Rattle.sp_rules.specs.Table.{lack_of, in_range, are_terms}
+use Rattle.sp_rules.specs.Table.{lack_of, in_range}
 use Rattle.sp_rules.specs.Facts.{holds_in, is_fact}
 use Rattle.sp_rules.specs.declared.fact.Fact.{Fact}
 use Rattle.sp_rules.specs.declared.fact.Fact.TheVariants.{Eq, Le}
@@ -23,7 +23,7 @@ use Rattle.sp_saturate.specs.Steps.{on, given_on, given, step_at, step_of, IsFou
 use Rattle.sp_saturate.specs.Marked.{IsMarked, IsUnmarked}
 use Rattle.sp_saturate.specs.Trail.{Found, IsTrail, Extends}
 use Rattle.sp_saturate.proofs.StepLemmas.{on-append, on-none}
-use Rattle.sp_rules.proofs.FactLemmas.{both_hold, both_true, is_fact-true, or_false}
+use Rattle.sp_rules.proofs.FactLemmas.{both_true, is_fact-true, or_false}
 
 pub given_on-append : (xs : List Step) (s : Step) (f : Fact) → given_on (xs ++ s ∷ []) f ≡ (given_on xs f || (eqb s.rule 0 && is_fact s.fact f))
 unfolding given_on

@@ -1,11 +1,10 @@
 -- The steps of a trail up to its first clash.
-use Rattle.std.specs.Prelude.{◌≡◌, ◌≤◌, ℕ, ◌+◌, ◌<◌, ◌⊎◌, ◌||◌, Bool, true, false, List, length, take, Option, Some, None, cond}
+use Rattle.std.specs.Prelude.{◌≡◌, ◌≤◌, ◌⊎◌, true, List, length, Option, Some, None, cond}
 use Rattle.sp_rules.specs.Terms.{Terms}
-use Rattle.sp_rules.specs.Table.{lack_of}
 use Rattle.sp_rules.specs.declared.fact.Fact.{Fact}
 use Rattle.sp_rules.specs.declared.fact.Fact.TheVariants.{Eq, Le}
 use Rattle.sp_rules.specs.declared.fact.Step.{Step}
-use Rattle.sp_saturate.specs.Steps.{on, given_on, step_at}
+use Rattle.sp_saturate.specs.Steps.{on, given_on}
 use Rattle.sp_saturate.specs.Trail.{Found}
 use Rattle.sp_rules.specs.Clash.{is_clash}
 use Rattle.sp_saturate.specs.Accepted.{AreAccepted, EndInClash}

@@ -1,5 +1,5 @@
 -- What a round over all rules finds: a step that the facts lack, or that there is none.
-use Rattle.std.specs.Prelude.{◌≡◌, ℕ, ◌<◌, ◌≤◌, Bool, true, false, Option, MatchOption}
+use Rattle.std.specs.Prelude.{◌≡◌, ℕ, ◌<◌, ◌≤◌, true, false, Option, MatchOption}
 use Rattle.sp_rules.specs.Terms.{count, arg, node_at, is_arithmetic}
 use Rattle.sp_rules.specs.declared.fact.Fact.{Fact}
 use Rattle.sp_rules.specs.declared.fact.Fact.TheVariants.{Eq, Le}

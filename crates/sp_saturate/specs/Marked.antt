@@ -1,5 +1,5 @@
 -- What putting a fact into two tables leaves, and taking it out.
-use Rattle.std.specs.Prelude.{◌≡◌, ℕ, ◌+◌, ◌||◌, ◌&&◌, Bool, not, length}
+use Rattle.std.specs.Prelude.{◌≡◌, ◌+◌, ◌||◌, ◌&&◌, not, length}
 use Rattle.sp_bits.specs.Table.{Bits}
 use Rattle.sp_rules.specs.Facts.{holds_in, is_fact}
 use Rattle.sp_rules.specs.declared.fact.Fact.{Fact}

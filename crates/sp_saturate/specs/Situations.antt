@@ -1,11 +1,12 @@
 -- What is given and what is assumed, and the facts that follow, as contracts see them.
-use Rattle.std.specs.Prelude.{◌≡◌, ℕ, ◌<◌, ◌≤◌, Bool, true, false, List, ◌++◌, All, IsTrue, length, take, slice_index}
+use Rattle.std.specs.Prelude.{◌≡◌, ℕ, ◌<◌, ◌≤◌, ◌↔◌, Bool, false, List, ◌++◌, All, IsTrue, length, take, slice_index, slice_index_or}
 use Rattle.sp_rules.specs.Terms.{Terms, count}
 use Rattle.sp_rules.specs.Facts.{is_one_of}
 use Rattle.sp_rules.specs.Follows.{Follows}
 use Rattle.sp_rules.specs.Laws.{IsClosed, AreIn}
 use Rattle.sp_rules.specs.Questions.{IsQuestion, Question, is_truth_below}
 use Rattle.sp_rules.specs.declared.fact.Fact.{Fact}
+use Rattle.sp_rules.specs.declared.fact.Fact.TheVariants.{Eq}
 use Rattle.sp_rules.specs.declared.fact.Step.{Step}
 use Rattle.sp_saturate.specs.Steps.{on, given_on}
 
@@ -21,6 +22,15 @@ supposed s = is_one_of (s.question.given ++ s.assumed)
 -- the fact follows from the given ones and the assumptions
 abbrev pub IsFollowing : Situation → Fact → Type 0
 IsFollowing s f = Follows s.question.terms (supposed s) f
+
+-- the facts of the list are those that follow, and none stands twice
+pub record AreFollowing (s : Situation) (facts : List Fact) : Type 0 where
+  pub each : (f : Fact) → IsTrue (is_one_of facts f) ↔ IsFollowing s f
+  pub once : (k : ℕ) → k < length facts → is_one_of (take k facts) (slice_index_or facts k (Eq 0 0)) ≡ false
+
+-- so many facts follow
+abbrev pub FollowAsMany : Situation → ℕ → Type 0
+FollowAsMany s n = (facts : List Fact) × AreFollowing s facts × (length facts ≡ n)
 
 -- the steps have these facts given, no others, and are closed
 pub record IsLevel (ts : Terms) (steps : List Step) (facts : List Fact) : Type 0 where

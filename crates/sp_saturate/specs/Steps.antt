@@ -1,7 +1,6 @@
 -- The steps by which facts were found, in order. For the closure and for the leaves of certificates.
-use Rattle.std.specs.Prelude.{◌≡◌, ◌==◌, ℕ, ◌+◌, ◌*◌, ◌/◌, ◌%◌, ◌<◌, ◌≤◌, ◌⊎◌, ◌||◌, ◌&&◌, Bool, true, false, cond, List, [], ◌∷◌, ◌++◌, length, take, map, slice_index, slice_index_or, Option, None}
+use Rattle.std.specs.Prelude.{◌≡◌, ◌==◌, ℕ, ◌/◌, ◌%◌, ◌<◌, ◌⊎◌, ◌&&◌, Bool, false, cond, List, length, take, slice_index, slice_index_or, None}
 use Rattle.std.specs.List.{list_any}
-use Rattle.sp_bits.specs.Table.{is_pair}
 use Rattle.sp_rules.specs.Terms.{Terms}
 use Rattle.sp_rules.specs.Table.{lack_of}
 use Rattle.sp_rules.specs.declared.fact.Fact.{Fact}

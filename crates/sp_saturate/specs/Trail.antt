@@ -1,5 +1,5 @@
 -- What a trail keeps: its tables hold the facts of its steps.
-use Rattle.std.specs.Prelude.{◌≡◌, ℕ, ◌+◌, ◌*◌, ◌<◌, ◌≤◌, ◌&&◌, ◌++◌, ◌∷◌, [], Bool, not, cond, is_none, List, length, map, take, slice_get, Some}
+use Rattle.std.specs.Prelude.{◌≡◌, ℕ, ◌+◌, ◌*◌, ◌≤◌, ◌&&◌, ◌++◌, ◌∷◌, [], Bool, not, cond, is_none, List, length, map, take, slice_get, Some}
 use Rattle.sp_bits.specs.Table.{Bits}
 use Rattle.sp_pool.specs.Records.{Records}
 use Rattle.sp_rules.specs.Terms.{Terms, AreSmall, count}

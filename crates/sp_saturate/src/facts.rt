@@ -9,7 +9,7 @@ ghost use Rattle.sp_rules.specs.Facts.{has_truth, is_one_of};
 ghost use Rattle.sp_rules.specs.Laws.{IsClosed};
 ghost use Rattle.sp_rules.specs.declared.fact.Fact.{Fact};
 ghost use Rattle.sp_saturate.specs.Accepted.{AreAccepted, EndInClash};
-ghost use Rattle.sp_saturate.specs.Situations.{Situation, IsFollowing, supposed};
+ghost use Rattle.sp_saturate.specs.Situations.{Situation, FollowAsMany, IsFollowing, supposed};
 ghost use Rattle.sp_saturate.specs.Steps.{on, given_on};
 ghost use Rattle.sp_saturate.specs.Trail.{Extends};
 
@@ -38,7 +38,6 @@ pub struct Facts<'a> {
     assumed: Vec<Fact>,
     /// How many steps there were before each assumption.
     starts: Vec<u32>,
-    late: u32,
 }
 
 impl<'a> Model for Facts<'a> {
@@ -52,22 +51,20 @@ impl<'a> Model for Facts<'a> {
     ghost invariant = { λ a. AreKept (record { terms = a.trail.terms; given = a.given.now; atoms = a.atoms.now }) a.trail.steps a.assumed.items a.starts.items × (20 ≤ vec_capacity a.assumed) × (20 ≤ vec_capacity a.starts) };
 }
 
-/// Closes a trail, whose steps before the given one are followed up. Answers how many steps only a last round found.
-fn close(trail: &mut Trail, parents: &Parents, from: u32) -> u32
+/// Closes a trail, whose steps before the given one are followed up.
+fn close(trail: &mut Trail, parents: &Parents, from: u32)
     ensures extends { Extends trail.old trail.new }
     ensures closed { IsClosed trail.new.terms (on trail.new.steps) }
 {
     let mut next = from;
-    let mut late: u32 = 0;
     'rounds: loop {
         follow(trail, parents, next);
         next = trail.count();
         let Some(step) = gap(trail) else {
-            return late;
+            return;
         };
         let _ = trail.try_step(&step);
         trail.tell_few();
-        late = late.saturating_add(1);
     }
 }
 
@@ -170,7 +167,7 @@ impl<'a> Facts<'a> {
         let mut trail = Trail::new(alloc, terms)?;
         give_all(&mut trail, given);
         start(&mut trail);
-        let late = close(&mut trail, &parents, 0);
+        close(&mut trail, &parents, 0);
         Ok(Facts {
             trail,
             parents,
@@ -178,7 +175,6 @@ impl<'a> Facts<'a> {
             atoms,
             assumed,
             starts,
-            late,
         })
     }
 
@@ -213,8 +209,7 @@ impl<'a> Facts<'a> {
         let fact = truth_fact(atom_at(self.atoms, atom), truth);
         let start = self.trail.count();
         self.trail.give(fact);
-        let late = close(&mut self.trail, &self.parents, start);
-        self.late = self.late.saturating_add(late);
+        close(&mut self.trail, &self.parents, start);
         push_fact(&mut self.assumed, fact);
         push_start(&mut self.starts, start);
     }
@@ -262,13 +257,10 @@ impl<'a> Facts<'a> {
     }
 
     /// How many facts follow.
-    pub fn count(&self) -> u32 {
+    pub fn count(&self) -> u32
+        ensures { FollowAsMany self.now result }
+    {
+        self.trail.tell_found();
         self.trail.count()
-    }
-
-    /// How many steps were found by a last round over all rules alone, since the facts were opened. To measure whether the
-    /// worklist forgets any.
-    pub fn late_steps(&self) -> u32 {
-        self.late
     }
 }

@@ -1,11 +1,10 @@
-use Rattle.std.proofs.Common.{◌≡◌, ◌||◌, ◌+◌, ◌++◌, ◌∷◌, Bool, List, [], length, take, get_or, refl, sym, ap, ◌∙◌, arith}
+use Rattle.std.proofs.Common.{◌≡◌, ◌||◌, ◌+◌, ◌++◌, ◌∷◌, [], take, get_or, refl, sym, ap, ◌∙◌, arith}
 use Rattle.std.proofs.lemmas.List.{take_more}
 use Rattle.sp_rules.specs.Facts.{is_one_of}
-use Rattle.sp_rules.specs.declared.fact.Fact.{Fact}
 use Rattle.sp_rules.specs.declared.fact.Fact.TheVariants.{Eq}
 use Rattle.sp_rules.proofs.FactLemmas.{is_one_of-none, or_false}
 use Rattle.sp_saturate.specs.Steps.{on, given_on}
-use Rattle.sp_saturate.specs.Trail.{Found, with_given}
+use Rattle.sp_saturate.specs.Trail.{Found}
 use Rattle.sp_saturate.proofs.Levels.{given_more, only_given}
 use Rattle.sp_saturate.proofs.facts.give_all.Goals as goal
 

@@ -1,8 +1,7 @@
-use Rattle.std.proofs.Common.{◌≡◌, ◌≤◌, ◌*◌, ◌++◌, ◌<◌, ℕ, List, [], get_or, length, true, sym, ap, ◌∙◌, subst, arith, IfOk}
+use Rattle.std.proofs.Common.{◌≡◌, ◌≤◌, ◌*◌, ◌++◌, ◌<◌, ℕ, get_or, length, true, sym, ap, ◌∙◌, subst, arith, IfOk}
 use Rattle.sp_rules.specs.Terms.{Terms, count}
 use Rattle.sp_rules.specs.Table.{in_range}
 use Rattle.sp_rules.specs.Facts.{is_one_of}
-use Rattle.sp_rules.specs.declared.fact.Fact.{Fact}
 use Rattle.sp_rules.specs.declared.fact.Fact.TheVariants.{Eq}
 use Rattle.sp_saturate.specs.Accepted.{AreAccepted}
 use Rattle.sp_saturate.specs.Front.{AreFront}

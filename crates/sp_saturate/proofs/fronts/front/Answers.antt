@@ -1,6 +1,5 @@
-use Rattle.std.proofs.Common.{◌≡◌, ℕ, ◌+◌, ◌<◌, ◌≤◌, ◌++◌, ◌∷◌, [], List, Bool, true, false, eqb, length, refl, sym, ap, ◌∙◌, subst, arith}
+use Rattle.std.proofs.Common.{◌≡◌, ◌+◌, ◌++◌, ◌∷◌, [], true, false, eqb, length, sym, ap, ◌∙◌, subst, arith}
 use Rattle.std.proofs.lemmas.Bool.Decides.{nat_tests}
-use Rattle.sp_rules.specs.Terms.{Terms}
 use Rattle.sp_rules.specs.declared.fact.Step.{Step}
 use Rattle.sp_saturate.specs.Steps.{step_at}
 use Rattle.sp_saturate.specs.Front.{AreFront, turned}

@@ -1,6 +1,5 @@
-use Rattle.std.proofs.Common.{◌≡◌, ◌+◌, ◌-◌, ◌<◌, List, length, take, sym, ap, ◌∙◌, subst, arith}
+use Rattle.std.proofs.Common.{◌≡◌, ◌+◌, ◌-◌, ◌<◌, length, take, sym, ap, ◌∙◌, subst, arith}
 use Rattle.std.specs.Prelude.{slice_index}
-use Rattle.sp_rules.specs.Terms.{Terms}
 use Rattle.sp_rules.specs.Questions.{Question}
 use Rattle.sp_saturate.specs.Situations.{AreKept}
 use Rattle.sp_saturate.specs.Trail.{Found}

@@ -1,4 +1,4 @@
-use Rattle.std.proofs.Common.{◌≡◌, ◌++◌, Bool, true, false, List, Option, Some, None, sym, ap, ◌∙◌, subst}
+use Rattle.std.proofs.Common.{◌++◌, Option, Some, None}
 use Rattle.sp_rules.specs.Terms.{Terms}
 use Rattle.sp_rules.specs.Follows.{Follows}
 use Rattle.sp_rules.specs.declared.fact.Fact.{Fact}
@@ -6,7 +6,7 @@ use Rattle.sp_saturate.specs.Steps.{on}
 use Rattle.sp_saturate.specs.Looking.{IsOn}
 use Rattle.sp_saturate.proofs.Levels.{level_all, level_has}
 use Rattle.sp_saturate.proofs.facts.Facts.clash.Goals as goal
-use Rattle.sp_rules.specs.Clash.{is_clash, IsFirstClash, IsBefore}
+use Rattle.sp_rules.specs.Clash.{IsFirstClash}
 use Rattle.sp_rules.specs.Facts.{is_one_of}
 
 -- the same of facts that are told otherwise

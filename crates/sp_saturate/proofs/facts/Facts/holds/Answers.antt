@@ -1,6 +1,4 @@
-use Rattle.std.proofs.Common.{◌≡◌, ◌++◌, Bool, true, sym, ap, ◌∙◌, subst}
-use Rattle.sp_rules.specs.Follows.{Follows}
-use Rattle.sp_saturate.specs.Steps.{on}
+use Rattle.std.proofs.Common.{◌++◌, sym, ◌∙◌}
 use Rattle.sp_saturate.proofs.Levels.{level_has, level_all}
 use Rattle.sp_saturate.proofs.facts.Facts.holds.Goals as goal
 

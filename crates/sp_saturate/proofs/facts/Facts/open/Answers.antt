@@ -1,11 +1,10 @@
-use Rattle.std.proofs.Common.{◌≡◌, ◌||◌, ◌<◌, ℕ, Bool, List, [], get_or, length, true, sym, ap, ◌∙◌, subst}
+use Rattle.std.proofs.Common.{◌≡◌, ◌<◌, ℕ, List, [], get_or, length, true, sym, ap, ◌∙◌, subst}
 use Rattle.sp_rules.specs.Terms.{Terms, count}
 use Rattle.sp_rules.specs.Facts.{is_one_of}
-use Rattle.sp_rules.specs.Questions.{IsQuestion, Question}
 use Rattle.sp_rules.specs.Table.{in_range}
 use Rattle.sp_rules.specs.declared.fact.Fact.{Fact}
 use Rattle.sp_rules.specs.declared.fact.Fact.TheVariants.{Eq}
-use Rattle.sp_saturate.specs.Steps.{on, given_on}
+use Rattle.sp_saturate.specs.Steps.{on}
 use Rattle.sp_saturate.specs.Situations.{AreKept, IsLevel}
 use Rattle.sp_saturate.specs.Trail.{Found, Extends}
 use Rattle.sp_saturate.proofs.Trails.{extends_then}
@@ -26,12 +25,12 @@ give_all-requires-clause-within c =
 pub invariant_of-result : goal.invariant_of-result
 invariant_of-result c =
     let q = c.args.root.now in
-    let b = c.close-late.new.trail in
-    let x : Extends c.give_all.new.trail b = extends_then _ _ _ c.start.ensures c.close-late.ensures.extends in
+    let b = c.close.new.trail in
+    let x : Extends c.give_all.new.trail b = extends_then _ _ _ c.start.ensures c.close.ensures.extends in
     let ts : b.terms ≡ q.terms = x.terms_same ∙ c.give_all.ensures.terms ∙ ap (λ (t : Found). t.terms) c.in_ok-trail.ensures ∙ c.terms-terms.ensures in
     let all : (f : Fact) → on c.give_all.new.trail.steps f ≡ is_one_of q.given f = λ f.
     on_first c.in_ok-trail.trail c.give_all.new.trail c.terms-terms.result.now c.given-given.result.now c.in_ok-trail.ensures c.give_all.ensures.on f ∙ ap (λ fs. is_one_of fs f) c.given-given.ensures in
-    let level : IsLevel b.terms b.steps q.given = level_first c.give_all.new.trail b q.given x c.close-late.ensures.closed all (λ f. c.give_all.ensures.given f ∙ all f) in
+    let level : IsLevel b.terms b.steps q.given = level_first c.give_all.new.trail b q.given x c.close.ensures.closed all (λ f. c.give_all.ensures.given f ∙ all f) in
     let kept : AreKept q b.steps [] [] = kept_first q b.steps c.tell_question.ensures (subst (λ t. IsLevel t b.steps q.given) ts level) in
     let there : AreKept (record { terms = b.terms; given = c.given-given.result.now; atoms = c.atoms-atoms.result.now }) b.steps [] [] =
     subst (λ (ks : List ℕ). AreKept (record { terms = b.terms; given = c.given-given.result.now; atoms = ks }) b.steps [] []) (sym c.atoms-atoms.ensures)

@@ -1,10 +1,9 @@
-use Rattle.std.proofs.Common.{◌≡◌, ◌≤◌, ◌<◌, ◌*◌, ◌⊎◌, ⊎_elim, ◌++◌, ℕ, Bool, true, false, List, get_or, length, sym, ap, ◌∙◌, subst, arith}
+use Rattle.std.proofs.Common.{◌≡◌, ◌≤◌, ◌<◌, ◌*◌, ◌⊎◌, ⊎_elim, ◌++◌, ℕ, true, false, List, get_or, length, sym, ◌∙◌, subst, arith}
 use Rattle.sp_rules.specs.Clash.{is_clash}
 use Rattle.sp_rules.specs.Facts.{is_one_of}
-use Rattle.sp_rules.specs.Follows.{Follows}
 use Rattle.std.specs.Prelude.{IsTrue}
 use Rattle.std.proofs.lemmas.List.Elements.{All-append}
-use Rattle.sp_rules.specs.Questions.{Question, IsQuestion, is_truth_below}
+use Rattle.sp_rules.specs.Questions.{Question, is_truth_below}
 use Rattle.sp_rules.specs.Table.{in_range}
 use Rattle.sp_rules.specs.Terms.{Terms, count}
 use Rattle.sp_rules.specs.declared.fact.Fact.{Fact}
@@ -12,7 +11,7 @@ use Rattle.sp_rules.specs.declared.fact.Fact.TheVariants.{Eq, Le}
 use Rattle.sp_rules.specs.declared.fact.Step.{Step}
 use Rattle.sp_saturate.specs.Accepted.{AreAccepted, EndInClash}
 use Rattle.sp_saturate.specs.Front.{AreFront, turned}
-use Rattle.sp_saturate.specs.Situations.{AreKept, IsLevel}
+use Rattle.sp_saturate.specs.Situations.{AreKept}
 use Rattle.sp_saturate.specs.Steps.{on, given_on}
 use Rattle.sp_saturate.specs.Trail.{Found}
 use Rattle.sp_saturate.proofs.Clashing.{turned_some}

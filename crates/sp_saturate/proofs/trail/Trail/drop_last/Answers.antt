@@ -1,9 +1,8 @@
-use Rattle.std.proofs.Common.{◌≡◌, ℕ, ◌+◌, ◌-◌, ◌<◌, ◌≤◌, ◌++◌, ◌∷◌, ◌&&◌, List, [], length, take, map, true, false, sym, ap, ◌∙◌, subst, arith}
+use Rattle.std.proofs.Common.{◌≡◌, ◌-◌, ◌<◌, List, length, take, map, true, sym, ap, ◌∙◌, subst, arith}
 use Rattle.std.proofs.lemmas.List.{take-map, length-map}
-use Rattle.sp_rules.specs.Terms.{Terms, count}
+use Rattle.sp_rules.specs.Terms.{count}
 use Rattle.sp_rules.specs.Facts.{holds_in}
 use Rattle.sp_rules.specs.declared.fact.Step.{Step}
-use Rattle.sp_rules.specs.declared.fact.Fact.{Fact}
 use Rattle.sp_pool.specs.Records.{Records}
 use Rattle.sp_saturate.specs.Steps.{on, step_of, step_at}
 use Rattle.sp_saturate.specs.Trail.{Found, IsTrail}

@@ -1,4 +1,4 @@
-use Rattle.std.proofs.Common.{◌≡◌, ℕ, ◌*◌, [], sym, ap, ◌∙◌, refl, subst, arith, rules}
+use Rattle.std.proofs.Common.{◌≡◌, ◌*◌, [], sym, ap, ◌∙◌, subst}
 use Rattle.sp_bits.specs.Table.{Bits, empty_table}
 use Rattle.sp_pool.specs.Records.{Records}
 use Rattle.sp_rules.specs.Terms.{count}

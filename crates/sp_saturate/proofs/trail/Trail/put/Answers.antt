@@ -1,14 +1,8 @@
-use Rattle.std.proofs.Common.{◌≡◌, ℕ, ◌+◌, ◌-◌, ◌<◌, ◌≤◌, ◌++◌, ◌∷◌, ◌&&◌, ◌⊎◌, Bool, [], length, take, map, true, false, None, sym, ap, ◌∙◌, subst, arith, ltb}
-use Rattle.std.proofs.lemmas.Bool.Decides.{Decides-ltb}
-use Rattle.sp_rules.specs.Terms.{Terms, count}
-use Rattle.sp_rules.specs.Table.{are_terms, in_range, lack_of}
-use Rattle.sp_rules.specs.declared.fact.Step.{Step}
-use Rattle.sp_pool.specs.Records.{Records}
-use Rattle.sp_saturate.specs.Steps.{on, step_of, IsFound}
-use Rattle.sp_saturate.specs.Trail.{Found, IsTrail}
+use Rattle.std.proofs.Common.{◌-◌, map, sym, subst}
+use Rattle.sp_saturate.specs.Steps.{step_of, IsFound}
+use Rattle.sp_saturate.specs.Trail.{IsTrail}
 use Rattle.sp_saturate.proofs.Trails.{has_room, trail_more}
 use Rattle.sp_saturate.proofs.trail.Trail.put.Goals as goal
-use Rattle.sp_rules.proofs.FactLemmas.{both_hold}
 
 pub unreachable-requires : goal.unreachable-requires
 unreachable-requires c =

@@ -1,9 +1,9 @@
-use Rattle.std.proofs.Common.{◌≡◌, ◌&&◌, not, Bool, true, false, Option, None, Some, is_none, refl, sym, ap, ◌∙◌, subst}
-use Rattle.sp_rules.specs.Table.{are_terms, lack_of}
+use Rattle.std.proofs.Common.{◌≡◌, true, Option, None, Some, is_none, refl, sym, ◌∙◌, subst}
+use Rattle.sp_rules.specs.Table.{lack_of}
 use Rattle.sp_rules.specs.declared.fact.Lack.{Lack}
 use Rattle.sp_rules.proofs.Steps.{ready, no_lack}
 use Rattle.sp_saturate.specs.Steps.{on}
-use Rattle.sp_saturate.specs.Trail.{Found, Extends, is_new}
+use Rattle.sp_saturate.specs.Trail.{Extends, is_new}
 use Rattle.sp_saturate.proofs.Trails.{extends_one}
 use Rattle.sp_saturate.proofs.trail.Trail.try_step.Goals as goal
 use Rattle.sp_rules.proofs.FactLemmas.{both_hold}

@@ -1,0 +1,4 @@
+mod Heads
+mod Rules
+pub mod Recursion
+pub mod Open

@@ -1,0 +1,6 @@
+mod Rooms
+mod Trails
+mod Following
+mod Faults
+mod Closes
+mod Lifting

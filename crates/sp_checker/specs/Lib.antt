@@ -1,0 +1,4 @@
+pub mod Trail
+pub mod Known
+pub mod Accepting
+pub mod Migration

@@ -90,5 +90,5 @@ module _ (s : Setting) (x : List Value) where
       one a there ∙ (λ i. h a there i ++ entries (at i) a)
       ∙ append_assoc old (flat_map (λ c. entries (x ++ c ∷ []) a) (map (proper_at t) (range_with_len 0 k))) (entries (x ++ proper_at t k ∷ []) a)
       ∙ ap (λ es. old ++ es) (ap (λ es. flat_map (λ c. entries (x ++ c ∷ []) a) (map (proper_at t) (range_with_len 0 k)) ++ es) (sym (append-nil (entries (x ++ proper_at t k ∷ []) a)))
-          ∙ sym (flat_map-append (λ c. entries (x ++ c ∷ []) a) (map (proper_at t) (range_with_len 0 k)) (proper_at t k ∷ [])))
+      ∙ sym (flat_map-append (λ c. entries (x ++ c ∷ []) a) (map (proper_at t) (range_with_len 0 k)) (proper_at t k ∷ [])))
       ∙ ap (λ cs. old ++ flat_map (λ c. entries (x ++ c ∷ []) a) cs) (sym (map-range_with_len_more (proper_at t) 0 k k (omega arith)))

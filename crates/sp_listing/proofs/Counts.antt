@@ -20,7 +20,7 @@ same_over : {A : Type 0} (b : Bool) (x y : A) (z : A) → (if b then x else z) �
 same_over true x y z = refl
 same_over false x y z = refl
 
-exchanged : {A : Type 0} (b c : Bool) (x y z : A) → (b ≡ true → c ≡ true → ⊥) → (if b then y else (if c then x else z)) ≡ (if c then x else (if b then y else z))
+pub exchanged : {A : Type 0} (b c : Bool) (x y z : A) → (b ≡ true → c ≡ true → ⊥) → (if b then y else (if c then x else z)) ≡ (if c then x else (if b then y else z))
 exchanged true true x y z h = absurd (h refl refl)
 exchanged true false x y z h = refl
 exchanged false c x y z h = refl
@@ -41,9 +41,9 @@ put_map (e ∷ es) p x g v = by (is_at p.fun p.args e) refl (put_map es p x g v)
         (λ i. if is_at g v e then Some e.value else ih i)
         ∙ exchanged (is_at g v e) (hit p.fun p.args g v) (Some x) (Some e.value) (entry_of es g v)
         (λ a b.
-            let q = (hit-Decides e.place.fun e.place.args g v).0 a in
-            let r = (hit-Decides p.fun p.args g v).0 b in
-            true≢false (sym ((hit-Decides e.place.fun e.place.args p.fun p.args).1 (q.0 ∙ sym r.0, q.1 ∙ sym r.1)) ∙ t))
+        let q = (hit-Decides e.place.fun e.place.args g v).0 a in
+        let r = (hit-Decides p.fun p.args g v).0 b in
+        true≢false (sym ((hit-Decides e.place.fun e.place.args p.fun p.args).1 (q.0 ∙ sym r.0, q.1 ∙ sym r.1)) ∙ t))
 
 put_apart : (es : List Entry) (p : Place) (x : Value) → AreApart es → AreApart (put es p x)
 unfolding put

@@ -3,6 +3,8 @@ mod Maps
 mod Changed
 mod Order
 mod Counts
-mod Walks
-mod Typed
+pub mod Walks
+pub mod Typed
 mod Branches
+mod OneCount
+mod OfRank

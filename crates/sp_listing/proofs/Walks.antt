@@ -84,5 +84,5 @@ module _ (m : Machine) (s u : Store) where
   entries_within x t a =
       flat_map-twice (λ cs. entry_if m s u (x ++ cs) a) (λ c. map (λ cs. c ∷ cs) (bindings m.world a.vars)) (proper_values m.world.sizes t)
       ∙ ap (λ f. flat_map f (proper_values m.world.sizes t)) (fun_ext (λ c.
-          flat_map-map (λ cs. entry_if m s u (x ++ cs) a) (λ cs. c ∷ cs) (bindings m.world a.vars)
-          ∙ ap (λ f. flat_map f (bindings m.world a.vars)) (fun_ext (λ cs. ap (λ y. entry_if m s u y a) (sym (append_assoc x (c ∷ []) cs))))))
+      flat_map-map (λ cs. entry_if m s u (x ++ cs) a) (λ cs. c ∷ cs) (bindings m.world a.vars)
+      ∙ ap (λ f. flat_map f (bindings m.world a.vars)) (fun_ext (λ cs. ap (λ y. entry_if m s u y a) (sym (append_assoc x (c ∷ []) cs))))))

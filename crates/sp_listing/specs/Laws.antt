@@ -1,5 +1,5 @@
 -- Laws of listing, stated for the step. Each is proved at a function of the same name.
-use Rattle.std.specs.Prelude.{ℕ, ◌+◌, List}
+use Rattle.std.specs.Prelude.{◌≡◌, ℕ, ◌+◌, List}
 use Rattle.sp_values.specs.declared.value.Value.{Value}
 use Rattle.sp_values.specs.declared.place.Place.{Place}
 use Rattle.sp_values.specs.declared.place.Invocation.{Invocation}
@@ -28,3 +28,7 @@ ClashLaw = (m : Machine) (s u : Store) (i : Invocation) (as' : List GuardedChang
 -- entries laid over a state make as many more as are of places that have none
 abbrev pub EntriesLaw : Type 0
 EntriesLaw = (es : List Entry) (s : Store) (n : ℕ) → AreApart es → HasEntries s n → HasEntries (overlay (entry_of es) s) (n + fresh es s)
+
+-- a state has one number of entries; so it isn't both too large and not
+abbrev pub CountLaw : Type 0
+CountLaw = (s : Store) (n k : ℕ) → HasEntries s n → HasEntries s k → n ≡ k

@@ -1,6 +1,6 @@
 //! Laws of the definitions, each on a function that does nothing.
 
-ghost use Rattle.sp_listing.specs.Laws.{ChangedLaw, ClashLaw, EntriesLaw, OrderLaw};
+ghost use Rattle.sp_listing.specs.Laws.{ChangedLaw, ClashLaw, CountLaw, EntriesLaw, OrderLaw};
 
 /// The true entries in order are those of the true changes.
 pub fn order_law()
@@ -20,4 +20,9 @@ pub fn clash_law()
 /// Entries laid over a state make as many more as are of places that have none.
 pub fn entries_law()
     ensures { EntriesLaw }
+{}
+
+/// A state has one number of entries.
+pub fn count_law()
+    ensures { CountLaw }
 {}

@@ -4,10 +4,11 @@
 mod laws;
 mod listed;
 mod over;
+mod rank;
 mod walk;
 mod writing;
 
-pub use laws::{changed_law, clash_law, entries_law, order_law};
+pub use laws::{changed_law, clash_law, count_law, entries_law, order_law};
 pub use listed::{ListFault, Listed, list_all};
 pub use over::Over;
 pub use writing::{fresh, write};

@@ -42,12 +42,7 @@ impl<'a> Model for Over<'a> {
 
 impl<'a> Over<'a> {
     /// Over this state, with these changes laid over it.
-    pub fn new(
-        spec: &'a Spec,
-        inst: &'a Instance,
-        state: &'a State,
-        below: &'a Listed,
-    ) -> Over<'a>
+    pub fn new(spec: &'a Spec, inst: &'a Instance, state: &'a State, below: &'a Listed) -> Over<'a>
         requires { IsSetting (record { parts = spec.now; instance = inst.now; old = state.now.entries; new = below.now ++ state.now.entries }) }
         ensures value { result ≡ record { parts = spec.now; instance = inst.now; old = state.now.entries; new = below.now ++ state.now.entries } }
     {

@@ -24,22 +24,22 @@ list_change-returns-else-not-holds t c =
     let form = if_is c.args.effect.now c.in-If.condition c.in-If.then c.in-If.otherwise c.as_slice-in-If.result.now c.in-If.otherwise c.in-If.is c.as_slice-in-If.ensures refl in
     let again : c.as_slice-then-number-count.result.now ≡ c.as_slice-in-If.result.now = c.as_slice-then-number-count.ensures ∙ sym c.as_slice-in-If.ensures in
     on_ok _ _ c.list_among.result (λ h.
-        then_listed c.args.self.now c.args.env.now (effect_tree c.args.effect.now) (tree c.in-If.condition) _ _ form c.requires c.holds-holds.result c.holds-holds.ensures
-        c.args.number c.count_all-count.result c.count_all-count.ensures c.args.out.now.items c.list_among.new.out.items c.if-number-count.true c.if-not-holds.false
-        (λ a there. h a (ap (λ es. slice_get (changes_in (effect_trees_of (map effect_tree es))) c.args.number) again ∙ there))) c.list_among.ensures
+    then_listed c.args.self.now c.args.env.now (effect_tree c.args.effect.now) (tree c.in-If.condition) _ _ form c.requires c.holds-holds.result c.holds-holds.ensures
+    c.args.number c.count_all-count.result c.count_all-count.ensures c.args.out.now.items c.list_among.new.out.items c.if-number-count.true c.if-not-holds.false
+    (λ a there. h a (ap (λ es. slice_get (changes_in (effect_trees_of (map effect_tree es))) c.args.number) again ∙ there))) c.list_among.ensures
 
 pub list_change-returns-else-holds : goal.list_change-returns-else-holds
 list_change-returns-else-holds t c =
     let form = if_is c.args.effect.now c.in-If.condition c.in-If.then c.in-If.otherwise c.as_slice-in-If.result.now c.as_slice-else-number-count.result.now c.in-If.is c.as_slice-in-If.ensures c.as_slice-else-number-count.ensures in
     on_ok _ _ c.list_among-else-number-count.result (λ h.
-        else_listed c.args.self.now c.args.env.now (effect_tree c.args.effect.now) (tree c.in-If.condition) _ _ form c.requires c.holds-holds.result c.holds-holds.ensures
-        c.args.number c.count_all-count.result c.count_all-count.ensures c.args.out.now.items c.list_among-else-number-count.new.out.items (omega (arith, c.if-number-count.false)) c.if-holds.false h) c.list_among-else-number-count.ensures
+    else_listed c.args.self.now c.args.env.now (effect_tree c.args.effect.now) (tree c.in-If.condition) _ _ form c.requires c.holds-holds.result c.holds-holds.ensures
+    c.args.number c.count_all-count.result c.count_all-count.ensures c.args.out.now.items c.list_among-else-number-count.new.out.items (omega (arith, c.if-number-count.false)) c.if-holds.false h) c.list_among-else-number-count.ensures
 
 pub list_change-returns-in-Every : goal.list_change-returns-in-Every
 list_change-returns-in-Every t c =
     let form = every_is c.args.effect.now c.in-Every.field-0 c.in-Every.ty c.in-Every.body c.as_slice-in-Every.result.now c.in-Every.is c.as_slice-in-Every.ensures in
     on_ok _ _ c.list_for_each.result (λ h.
-        every_listed c.args.self.now c.args.env.now (effect_tree c.args.effect.now) c.in-Every.field-0 c.in-Every.ty _ form c.args.number c.args.out.now.items c.list_for_each.new.out.items h) c.list_for_each.ensures
+    every_listed c.args.self.now c.args.env.now (effect_tree c.args.effect.now) c.in-Every.field-0 c.in-Every.ty _ form c.args.number c.args.out.now.items c.list_for_each.new.out.items h) c.list_for_each.ensures
 
 pub list_for_each-list_among-requires : goal.list_for_each-list_among-requires
 list_for_each-list_among-requires t c = (

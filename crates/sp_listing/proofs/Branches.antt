@@ -1,5 +1,5 @@
 -- What the walk over an effect lists: the entries of the change of a number, by the branch or the body in which it stands.
-use Rattle.std.proofs.Common.{◌≡◌, refl, sym, ◌∙◌, ap, subst, arith, ℕ, zero, suc, ◌+◌, ◌-◌, ◌<◌, ◌≤◌, Bool, true, false, List, [], ◌∷◌, ◌++◌, length, map, Option, Some, None, append_assoc}
+use Rattle.std.proofs.Common.{◌≡◌, refl, sym, ◌∙◌, ap, arith, ℕ, ◌+◌, ◌-◌, ◌<◌, ◌≤◌, Bool, true, false, List, [], ◌∷◌, ◌++◌, length, map, Some, append_assoc}
 use Rattle.std.specs.Prelude.{slice_get, if◌then◌else◌, Result, Ok, Err, OnOk, not}
 use Rattle.std.specs.List.{flat_map, range_with_len}
 use Rattle.std.proofs.lemmas.List.{append-nil, length-map}
@@ -16,7 +16,7 @@ use Rattle.sp_core.specs.States.{entry_of}
 use Rattle.sp_core.specs.Tree.{Tree, Not}
 use Rattle.sp_core.specs.Values.{is_true}
 use Rattle.sp_core.proofs.Bindings.{length_values}
-use Rattle.sp_eval.specs.Settings.{Setting, population, proper_at, sizes}
+use Rattle.sp_eval.specs.Settings.{Setting, proper_at, sizes}
 use Rattle.sp_listing.specs.Conditions.{IsConditionIn, IsEffectIn, machine}
 use Rattle.sp_listing.specs.True.{entries_at}
 use Rattle.sp_listing.proofs.Typed.{if_condition}

@@ -1,7 +1,6 @@
 -- What a list of the true changes has to do with the relation between the states before and after them.
-use Rattle.std.proofs.Common.{◌≡◌, refl, sym, ◌∙◌, ap, subst, ℕ, List, Option, Some, None}
-use Rattle.std.specs.Prelude.{slice_get, take}
-use Rattle.std.proofs.lemmas.Option.{same_Some}
+use Rattle.std.proofs.Common.{◌≡◌, refl, sym, ◌∙◌, ap, ℕ, List, Option, Some, None}
+use Rattle.std.specs.Prelude.{take}
 use Rattle.sp_values.specs.declared.value.Value.{Value}
 use Rattle.sp_values.specs.declared.place.Place.{Place}
 use Rattle.sp_values.specs.declared.place.Invocation.{Invocation}
@@ -11,7 +10,7 @@ use Rattle.sp_core.specs.Machine.{Changes, Conflict, IsTrueChange, Machine, targ
 use Rattle.sp_core.specs.Values.{Store}
 use Rattle.sp_core.specs.States.{entry_of}
 use Rattle.sp_eval.specs.Overlays.{overlay, upper_or}
-use Rattle.sp_listing.specs.Listing.{AreAlike, IsConflictAt, IsFirstConflict}
+use Rattle.sp_listing.specs.Listing.{AreAlike, IsFirstConflict}
 use Rattle.sp_listing.specs.True.{AreOf, entry_with}
 use Rattle.sp_listing.proofs.Maps.{entry_from, slice_get-take}
 

@@ -1,5 +1,5 @@
 -- How many entries a state has with changes laid over it.
-use Rattle.std.proofs.Common.{◌≡◌, refl, sym, ◌∙◌, ap, subst, arith, ℕ, suc, ◌+◌, Bool, true, false, List, [], ◌∷◌, length, Option, Some, None, true≢false}
+use Rattle.std.proofs.Common.{◌≡◌, refl, sym, ◌∙◌, ap, arith, ℕ, suc, ◌+◌, Bool, true, false, List, [], ◌∷◌, length, Option, Some, true≢false}
 use Rattle.std.specs.Prelude.{if◌then◌else◌, is_some}
 use mathlib.Core.Path.{fun_ext}
 use Rattle.sp_values.specs.declared.value.Value.{Value}
@@ -9,7 +9,7 @@ use Rattle.sp_core.specs.Values.{Store}
 use Rattle.sp_core.specs.States.{AreApart, entry_of, is_at, put_at}
 use Rattle.sp_core.proofs.StateLemmas.{hit, hit-Decides, hit-swapped}
 use Rattle.sp_eval.specs.Overlays.{overlay, upper_or}
-use Rattle.sp_listing.specs.Listing.{AreEntriesOf, HasEntries, fresh, given_to}
+use Rattle.sp_listing.specs.Listing.{HasEntries, fresh}
 
 -- the entries with one put among them
 put : List Entry → Place → Value → List Entry

@@ -1,5 +1,5 @@
 -- A state has one number of entries: lists of entries, no two of one place, that are one map are equally long.
-use Rattle.std.proofs.Common.{◌≡◌, refl, sym, ◌∙◌, ap, subst, arith, ℕ, suc, Bool, true, false, List, [], ◌∷◌, length, Option, Some, None, true≢false}
+use Rattle.std.proofs.Common.{◌≡◌, refl, sym, ◌∙◌, ap, ℕ, suc, Bool, true, false, List, [], ◌∷◌, length, Option, Some, None, true≢false}
 use Rattle.std.specs.Prelude.{if◌then◌else◌}
 use Rattle.std.proofs.lemmas.Option.{none-some}
 use mathlib.Core.Path.{fun_ext}
@@ -7,7 +7,7 @@ use Rattle.sp_values.specs.declared.value.Value.{Value}
 use Rattle.sp_core.specs.declared.state.Entry.{Entry}
 use Rattle.sp_core.specs.Values.{Store}
 use Rattle.sp_core.specs.States.{AreApart, entry_of, is_at}
-use Rattle.sp_core.proofs.StateLemmas.{hit, hit-Decides, hit-swapped}
+use Rattle.sp_core.proofs.StateLemmas.{hit, hit-Decides}
 use Rattle.sp_listing.specs.Listing.{HasEntries}
 use Rattle.sp_listing.proofs.Counts.{exchanged}
 use Rattle.sp_listing.proofs.Maps.{hit-self}

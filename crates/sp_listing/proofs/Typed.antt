@@ -1,6 +1,6 @@
 -- What the parts of effects that are typed in an environment are themselves, and how many changes they have.
-use Rattle.std.proofs.Common.{◌≡◌, refl, sym, ◌∙◌, ap, subst, arith, ℕ, zero, suc, ◌+◌, ◌-◌, ◌<◌, ◌≤◌, Bool, true, false, List, [], ◌∷◌, ◌++◌, length, length-append, map, take, drop, get_or, Option, Some, None, inl, inr}
-use Rattle.std.specs.Prelude.{slice_get, max, if◌then◌else◌}
+use Rattle.std.proofs.Common.{◌≡◌, refl, sym, ◌∙◌, ap, subst, arith, ℕ, zero, suc, ◌+◌, ◌-◌, ◌<◌, ◌≤◌, true, List, [], ◌∷◌, ◌++◌, length, length-append, map, take, drop, get_or}
+use Rattle.std.specs.Prelude.{max}
 use Rattle.std.proofs.lemmas.List.{length-map}
 use Rattle.std.proofs.Math.Seq.{take-length}
 use Rattle.sp_values.specs.declared.value.Ty.{Ty}
@@ -10,10 +10,9 @@ use Rattle.sp_values.specs.Domains.{are_values, is_value}
 use Rattle.sp_core.specs.declared.expr.Expr.{Expr}
 use Rattle.sp_core.specs.declared.function.Effect.{Effect}
 use Rattle.sp_core.specs.declared.function.Effect.TheVariants as effect
-use Rattle.sp_core.specs.Effects.{EffectTree, EffectTrees, Change, Answer, If, Every, none, more, change_under, change_within, changes, changes_in, effect_tree, effect_trees_of}
-use Rattle.sp_core.specs.Instances.{filling_of}
+use Rattle.sp_core.specs.Effects.{EffectTree, EffectTrees, Change, If, Every, more, change_under, change_within, changes, changes_in, effect_tree, effect_trees_of}
 use Rattle.sp_core.specs.Machine.{types_of}
-use Rattle.sp_core.specs.Measures.{bound_variables, bound_variables_in, quantifiers}
+use Rattle.sp_core.specs.Measures.{bound_variables, bound_variables_in}
 use Rattle.sp_core.specs.Parts.{signature}
 use Rattle.sp_core.specs.Tree.{Tree, Trees, Not, tree, trees_of}
 use Rattle.sp_core.specs.Tree as trees

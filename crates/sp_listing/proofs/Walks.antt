@@ -1,7 +1,7 @@
 -- The entries of one change of effects, by the form of the effect that it stands in.
-use Rattle.std.proofs.Common.{◌≡◌, refl, sym, ◌∙◌, ap, subst, arith, ℕ, zero, suc, ◌+◌, ◌-◌, ◌<◌, ◌≤◌, Bool, true, false, List, [], ◌∷◌, ◌++◌, length, map, Option, Some, None, append_assoc}
-use Rattle.std.specs.Prelude.{if◌then◌else◌, not, ◌&&◌, slice_get}
-use Rattle.std.specs.List.{flat_map, list_all}
+use Rattle.std.proofs.Common.{◌≡◌, refl, sym, ◌∙◌, ap, arith, ℕ, zero, suc, ◌+◌, ◌-◌, ◌<◌, ◌≤◌, Bool, true, false, List, [], ◌∷◌, ◌++◌, length, map, Some, append_assoc}
+use Rattle.std.specs.Prelude.{if◌then◌else◌, ◌&&◌, slice_get}
+use Rattle.std.specs.List.{flat_map}
 use Rattle.std.proofs.lemmas.List.{append-nil}
 use Rattle.std.proofs.lemmas.List.Folds.{flat_map-map}
 use Rattle.std.proofs.lemmas.Grind.{flat_map-append}
@@ -11,9 +11,9 @@ use Rattle.sp_values.specs.declared.value.Ty.{Ty}
 use Rattle.sp_values.specs.declared.value.Value.{Value}
 use Rattle.sp_values.specs.Domains.{proper_values}
 use Rattle.sp_core.specs.declared.state.Entry.{Entry}
-use Rattle.sp_core.specs.Effects.{GuardedChange, EffectTree, EffectTrees, Change, Answer, If, Every, none, more, change_under, change_within, changes, changes_in}
+use Rattle.sp_core.specs.Effects.{GuardedChange, EffectTree, EffectTrees, Change, Answer, If, Every, none, more, change_under, change_within, changes}
 use Rattle.sp_core.specs.Machine.{Machine, value_at}
-use Rattle.sp_core.specs.Tree.{Tree, Trees, Not}
+use Rattle.sp_core.specs.Tree.{Tree, Trees}
 use Rattle.sp_core.specs.Typing.{HasType, Signature}
 use Rattle.sp_core.specs.Values.{Store, is_true, look}
 use Rattle.sp_core.proofs.Fronts.{value_front}

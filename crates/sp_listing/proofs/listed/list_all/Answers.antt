@@ -1,4 +1,4 @@
-use Rattle.std.proofs.Common.{◌≡◌, ◌+◌, refl, ◌∙◌, ap, subst, arith, suc, length, Some}
+use Rattle.std.proofs.Common.{◌≡◌, ◌+◌, refl, subst, arith, suc, length, Some}
 use Rattle.std.proofs.lemmas.Option.{slice_get_read}
 use Rattle.std.specs.Prelude.{slice_get}
 use Rattle.sp_values.specs.declared.place.Place.{Place}

@@ -1,4 +1,4 @@
-use Rattle.std.proofs.Common.{◌≡◌, refl, ◌++◌, ◌∷◌, [], sym, ◌∙◌, ap, arith, map, subst}
+use Rattle.std.proofs.Common.{◌≡◌, refl, ◌++◌, ◌∷◌, [], sym, ◌∙◌, ap, arith, map}
 use Rattle.std.specs.Prelude.{slice_get}
 use Rattle.sp_core.specs.Effects.{changes_in, effect_tree, effect_trees_of}
 use Rattle.sp_core.specs.Tree.{tree}

@@ -1,4 +1,4 @@
-use Rattle.std.proofs.Common.{◌≡◌, ◌+◌, ◌++◌, [], sym, ◌∙◌, ap, arith, map, subst, suc, take}
+use Rattle.std.proofs.Common.{◌≡◌, ◌+◌, ◌++◌, [], sym, ◌∙◌, ap, arith, map, suc, take}
 use Rattle.std.specs.Prelude.{◌==◌, if◌then◌else◌}
 use Rattle.std.specs.List.{filter}
 use Rattle.sp_core.specs.Effects.{changes_in, effect_tree, effect_trees_of}

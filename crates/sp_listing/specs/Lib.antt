@@ -1,0 +1,4 @@
+pub mod Listing
+pub mod True
+pub mod Conditions
+pub mod Laws

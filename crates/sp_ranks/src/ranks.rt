@@ -1,0 +1,43 @@
+ghost use Rattle.std.specs.Prelude.{◌≡◌, ◌≤◌, IfOk, OnOk, length, map};
+ghost use Rattle.sp_text.specs.declared.limits.TheConstants.{MOST_CHANGES};
+ghost use Rattle.sp_core.specs.Effects.{changes_in, effect_tree, effect_trees_of};
+ghost use Rattle.sp_core.specs.Ranks.{change_rank};
+ghost use Rattle.sp_ranks.specs.Heights as meaning;
+ghost use Rattle.sp_ranks.specs.Heights.{heights_within};
+
+use crate::heights::{Height, height_of, raise_all};
+use sp_core::Effect;
+use sp_text::Memory;
+use std::alloc::Global;
+
+// The heights by as long chains as there are changes.
+fn heights(alloc: Global, effects: &[Effect]) -> Result<Vec<Height>, Memory>
+    requires { length (changes_in (effect_trees_of (map effect_tree effects.now))) ≤ MOST_CHANGES }
+    ensures { IfOk result (λ all. all.items ≡ heights_within (changes_in (effect_trees_of (map effect_tree effects.now))) (length (changes_in (effect_trees_of (map effect_tree effects.now))))) }
+{
+    let mut first = Vec::new(alloc);
+    raise_all(&[], effects, &mut first)?;
+    let mut heights = Vec::new(alloc);
+    for _ in 0..first.len() {
+        let mut next = Vec::new(alloc);
+        raise_all(&heights, effects, &mut next)?;
+        heights = next;
+    }
+    Ok(heights)
+}
+
+/// The rank of each change, in text order: how many steps the longest chain has that ends at its function.
+///
+/// # Errors
+/// `Memory` where they can't be listed.
+pub fn ranks(alloc: Global, effects: &[Effect]) -> Result<Vec<u16>, Memory>
+    requires { length (changes_in (effect_trees_of (map effect_tree effects.now))) ≤ MOST_CHANGES }
+    ensures { IfOk result (λ all. all.items ≡ map (λ a. change_rank (changes_in (effect_trees_of (map effect_tree effects.now))) a.fun) (changes_in (effect_trees_of (map effect_tree effects.now)))) }
+{
+    let heights = heights(alloc, effects)?;
+    let mut all = Vec::new(alloc);
+    for height in &heights {
+        all.push(height_of(&heights, height.fun))?;
+    }
+    Ok(all)
+}

@@ -1,4 +1,4 @@
-use Rattle.std.proofs.Common.{◌<◌, ◌≤◌, arith}
+use Rattle.std.proofs.Common.{arith}
 use Rattle.std.proofs.lemmas.Bool.{leb-true}
 use Rattle.sp_saturate_tests.proofs.Nodes.{looked_at}
 use Rattle.sp_saturate_tests.proofs.builder.is_node.Goals as goal

@@ -1,0 +1,2 @@
+mod Cores
+pub mod Greatest

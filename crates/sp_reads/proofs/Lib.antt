@@ -1,0 +1,3 @@
+pub mod ReadLaws
+mod Lists
+mod Nodes

@@ -1,17 +1,17 @@
 -- A list of formulas that is added in turns.
 use Rattle.std.proofs.Common.{◌≡◌, refl, sym, ◌∙◌, ap, subst, ℕ, zero, suc, ◌+◌, ◌<◌, List, [], ◌∷◌, ◌++◌, map, length, drop, append_assoc, get_or, arith}
 use Rattle.std.specs.Prelude.{slice_get, Some}
-use Rattle.std.proofs.lemmas.List.{append-nil, drop_all, length-map}
+use Rattle.std.proofs.lemmas.List.{append-nil, drop_all, length-map, map-append}
 use Rattle.std.proofs.lemmas.Option.{none-some, same_Some, slice_get-map, slice_get_read}
 use Rattle.std.specs.Option.{option_map}
 use Rattle.sp_core.specs.Parts.{Parts}
-use Rattle.sp_core.specs.Tree.{Tree, Not}
+use Rattle.sp_core.specs.Tree.{Tree, Not, trees_of}
 use Rattle.sp_sequent.specs.declared.formula.Formula.{Formula as Made}
-use Rattle.sp_formulas.specs.Formulas.{Formula, Spot, exception_formulas, reference_formulas}
+use Rattle.sp_formulas.specs.Formulas.{Formula, Spot, exception_formulas, guard_formulas, reference_formula, reference_formulas}
 use Rattle.sp_formulas.specs.Generated.{IsAdded, IsRefused, IsUnderWay}
 use Rattle.sp_formulas.specs.Typed.{AreTypedFormulas, IsTypedFormula}
 use Rattle.sp_formulas.proofs.Alls.{All-back, All-front}
-use Rattle.sp_formulas.specs.References.{references}
+use Rattle.sp_formulas.specs.References.{references, references_in}
 use Rattle.sp_formulas.specs.declared.fault.FormulaFault.{FormulaFault}
 use Rattle.sp_formulas.proofs.GeneratedLemmas.{added_none, added_then, refused_first, refused_later}
 
@@ -49,3 +49,23 @@ exceptions_next p o before more f xs ys k x same below is up =
 
 pub exceptions_end : {X : Type 0} (p : Parts) (o : Spot) (before : List Tree) (f : X → Tree) (xs : List X) (k : ℕ) → length xs < k + 1 → exception_formulas p o before (drop k (map f xs)) ≡ []
 exceptions_end p o before f xs k h = ap (exception_formulas p o before) (drop_all k (map f xs) (omega (arith, h, length-map xs f)))
+
+-- guards: the same
+pub guards_next : {X : Type 0} (p : Parts) (o : Spot) (before more : List Tree) (f : X → Tree) (xs : List X) (k : ℕ) (x : X) → k < length xs → x ≡ get_or xs k x → more ≡ before ++ f x ∷ []
+    → guard_formulas p o before (drop k (map f xs)) ≡ reference_formulas p o before (references (f x)) ++ guard_formulas p o more (drop (k + 1) (map f xs))
+guards_next p o before more f xs k x below is up =
+    let there : slice_get (map f xs) k ≡ Some (f x) = slice_get-map f xs k ∙ ap (option_map f) (slice_get_read xs (length xs) k x refl below is) in
+    let e : suc k ≡ k + 1 = omega arith in
+    ap (guard_formulas p o before) (drop_next (map f xs) k (f x) there)
+    ∙ ap (λ b. reference_formulas p o before (references (f x)) ++ guard_formulas p o b (drop (suc k) (map f xs))) (sym up)
+    ∙ ap (λ n. reference_formulas p o before (references (f x)) ++ guard_formulas p o more (drop n (map f xs))) e
+
+-- references of expressions, one after the other
+pub targets_next : {X : Type 0} (p : Parts) (o : Spot) (hyps : List Tree) (f : X → Tree) (xs : List X) (k : ℕ) (x : X) → k < length xs → x ≡ get_or xs k x
+    → reference_formulas p o hyps (references_in (trees_of (drop k (map f xs)))) ≡ reference_formulas p o hyps (references (f x)) ++ reference_formulas p o hyps (references_in (trees_of (drop (k + 1) (map f xs))))
+targets_next p o hyps f xs k x below is =
+    let there : slice_get (map f xs) k ≡ Some (f x) = slice_get-map f xs k ∙ ap (option_map f) (slice_get_read xs (length xs) k x refl below is) in
+    let e : suc k ≡ k + 1 = omega arith in
+    ap (λ ts. reference_formulas p o hyps (references_in (trees_of ts))) (drop_next (map f xs) k (f x) there)
+    ∙ map-append (reference_formula p o hyps) (references (f x)) (references_in (trees_of (drop (suc k) (map f xs))))
+    ∙ ap (λ n. reference_formulas p o hyps (references (f x)) ++ reference_formulas p o hyps (references_in (trees_of (drop n (map f xs))))) e

@@ -133,20 +133,20 @@ about k g f = record { kind = k; fun = g; name = f.name; formals = f.formals }
 abbrev pub spot : FormulaKind → ℕ → Function → List Ty → Tree → Spot
 spot k g f bound upper = record { about = about k g f; known = 0; bound = bound; upper = upper }
 
--- a change gives its own formula, those of its guards, of its value and of its arguments; a result those of its guards
--- and of its value
-abbrev pub deed_formulas : Parts → ℕ → Function → Item → Deed → List Formula
-deed_formulas p g f i (Change h ds e) =
-    formula p (about is.Change g f) 0 i.vars (denied f ++ guards_of f i) (Two op.LevelLe (tree f.level) (level_at p h ds))
-    ∷ (guard_formulas p (spot is.GuardReference g f i.vars (level_at p h ds)) (denied f) (guards_of f i)
-    ++ (reference_formulas p (spot is.ValueReference g f i.vars (level_at p h ds)) (denied f ++ guards_of f i) (references e)
-    ++ reference_formulas p (spot is.TargetReference g f i.vars (tree f.level)) (denied f) (references_in ds)))
-deed_formulas p g f i (Answer e) =
-    guard_formulas p (spot is.ResultGuardReference g f i.vars (tree f.level)) (denied f) (guards_of f i)
-    ++ reference_formulas p (spot is.ResultReference g f i.vars (tree f.level)) (denied f ++ guards_of f i) (references e)
+-- A change, over bound variables of types ts and with guards gs, gives its own formula, those of its guards, of its value
+-- and of its arguments; a result those of its guards and of its value.
+abbrev pub deed_formulas : Parts → ℕ → Function → List Ty → List Tree → Deed → List Formula
+deed_formulas p g f ts gs (Change h ds e) =
+    formula p (about is.Change g f) 0 ts (denied f ++ gs) (Two op.LevelLe (tree f.level) (level_at p h ds))
+    ∷ (guard_formulas p (spot is.GuardReference g f ts (level_at p h ds)) (denied f) gs
+    ++ (reference_formulas p (spot is.ValueReference g f ts (level_at p h ds)) (denied f ++ gs) (references e)
+    ++ reference_formulas p (spot is.TargetReference g f ts (tree f.level)) (denied f) (references_in ds)))
+deed_formulas p g f ts gs (Answer e) =
+    guard_formulas p (spot is.ResultGuardReference g f ts (tree f.level)) (denied f) gs
+    ++ reference_formulas p (spot is.ResultReference g f ts (tree f.level)) (denied f ++ gs) (references e)
 
 abbrev pub item_formulas : Parts → ℕ → Function → Item → List Formula
-item_formulas p g f i = deed_formulas p g f i i.deed
+item_formulas p g f i = deed_formulas p g f i.vars (guards_of f i) i.deed
 
 -- two changes of one V-function: where both are made at one place, the values are equal; the second one's own variables
 -- stand behind those of the first

@@ -1,5 +1,9 @@
-//! Tests of certificate texts, in a crate of their own so that `sp_cert` isn't proved again with them.
+//! Tests of certificate texts and of the checker, in a crate of their own so that neither is proved again with them.
 #![tactic(auto)]
 
+#[cfg(test)]
+mod hostile;
+#[cfg(test)]
+mod root;
 #[cfg(test)]
 mod texts;

@@ -1,8 +1,0 @@
-//! In which order the changes of a function are made: the rank of each change, where changes read new values.
-#![tactic(auto)]
-
-mod heights;
-mod ranks;
-
-pub use heights::Height;
-pub use ranks::ranks;

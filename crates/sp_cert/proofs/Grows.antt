@@ -9,7 +9,7 @@ use Rattle.sp_cert.specs.Tree as plain
 use Rattle.sp_cert.specs.Tree.{Tree, File, Split}
 use Rattle.sp_cert.specs.Within.{AreTrees}
 use Rattle.sp_cert.specs.Fields.{format_of, node_of}
-use Rattle.sp_cert.specs.Input.{Input, Outcome, Reader, and_then, one, too_deep}
+use Rattle.sp_cert.specs.Input.{Input, Outcome, Reader, and_then, one}
 use Rattle.sp_cert.specs.Reader.{leaf, split, below, tree_within, formula, formula_is, formulas, until_end, file, file_with, front, steps, below_none}
 use Rattle.sp_cert.proofs.Forms.{wider}
 

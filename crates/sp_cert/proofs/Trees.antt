@@ -4,7 +4,7 @@ use Rattle.sp_rules.specs.declared.fact.Step.{Step}
 use Rattle.sp_cert.specs.declared.cert.Cert.{Cert}
 use Rattle.sp_cert.specs.declared.cert.Cert.TheVariants as cert
 use Rattle.sp_cert.specs.declared.cert.Cert.TheFolds.{the_lemmas}
-use Rattle.sp_cert.specs.Tree.{Tree, tree, Split, Leaf, Steps}
+use Rattle.sp_cert.specs.Tree.{tree, Split, Leaf, Steps}
 
 pub tree_split : (a : ℕ) (t f : Cert) → tree (cert.Split a t f) ≡ Split a (tree t) (tree f)
 tree_split a t f = search (rules, the_lemmas)

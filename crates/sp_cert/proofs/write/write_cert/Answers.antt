@@ -1,7 +1,7 @@
 use Rattle.std.proofs.Common.{◌≡◌, ◌++◌, ◌∷◌, [], List, ℕ, map, Result, Ok, Err, ap, ◌∙◌, append_assoc}
 use Rattle.std.specs.Prelude.{OnOk, codes, decimal}
 use Rattle.sp_text.specs.declared.fault.Memory.{Memory}
-use Rattle.sp_cert.specs.Tree.{tree, trees}
+use Rattle.sp_cert.specs.Tree.{tree}
 use Rattle.sp_cert.specs.Spelling.{text, first_line, formula_lines}
 use Rattle.sp_cert.proofs.write.write_cert.Goals as goal
 

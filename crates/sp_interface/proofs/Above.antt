@@ -1,5 +1,5 @@
 -- Items behind those that are there already: what a reader of many items finds, with these before it.
-use Rattle.std.proofs.Common.{◌≡◌, ℕ, ◌-◌, ◌<◌, ◌≤◌, true, false, List, [], ◌∷◌, ◌++◌, Ok, Err, Result, sym, ◌∙◌, ap, subst}
+use Rattle.std.proofs.Common.{◌≡◌, ℕ, ◌-◌, ◌<◌, ◌≤◌, true, false, List, ◌++◌, Ok, Err, Result, sym, ◌∙◌, ap, subst}
 use Rattle.sp_text.specs.declared.fault.TextFault.{TextFault}
 use Rattle.sp_grammar.specs.Lang.{has}
 use Rattle.sp_forms.specs.Cursors.{Cursor, lookahead, Reader, Outcome, and_then, Reads}

@@ -1,5 +1,5 @@
 -- The mentions of a row, and the limit at a mention that is over.
-use Rattle.std.proofs.Common.{◌≡◌, ℕ, suc, ◌+◌, ◌<◌, List, [], ◌∷◌, Option, None, Some, length, get_or, drop, refl, sym, ap, ◌∙◌, add-one, drop-cons}
+use Rattle.std.proofs.Common.{◌≡◌, ℕ, suc, ◌+◌, ◌<◌, List, ◌∷◌, Option, Some, length, get_or, drop, sym, ap, ◌∙◌, add-one, drop-cons}
 use Rattle.sp_text.specs.declared.fault.Limit.{Limit}
 use Rattle.sp_text.specs.declared.fault.Quantity.TheVariants.{Interfaces}
 use Rattle.sp_text.specs.declared.fault.Span.{Span}

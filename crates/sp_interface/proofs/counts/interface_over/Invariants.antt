@@ -1,4 +1,4 @@
-use Rattle.std.proofs.Common.{◌≡◌, ◌≤◌, ◌-◌, ℕ, [], drop}
+use Rattle.std.proofs.Common.{◌≡◌, ◌≤◌, ◌-◌, [], drop}
 use Rattle.std.specs.Prelude.{slice_get, vec_len}
 use Rattle.sp_interface.specs.Counts.{first_mentions, mentioned}
 use Rattle.sp_interface.proofs.counts.interface_over.Given as goal

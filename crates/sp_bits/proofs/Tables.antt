@@ -6,9 +6,9 @@ use Rattle.std.proofs.lemmas.Nat.Bits.{bit_at-zero}
 use Rattle.std.proofs.lemmas.Nat.{same_from_place}
 use Rattle.std.proofs.lemmas.Bool.Decides.{nat_tests, eqb_tells, Decides-ltb}
 use Rattle.std.proofs.lemmas.List.Folds.{list_any-append}
-use Rattle.sp_bits.specs.Table.{Bits, IsTable, has_bit, table, row, rows, has, is_pair, empty_table, bit_of, bit_in}
+use Rattle.sp_bits.specs.Table.{AreWithin, Bits, HaveNoneAfter, IsTable, has_bit, table, row, rows, has, is_pair, empty_table, bit_of, bit_in}
 use Rattle.std.proofs.lemmas.Bool.{eqb-true}
-use Rattle.sp_bits.proofs.Words.{AreWithin, bit_in_word}
+use Rattle.sp_bits.proofs.Words.{bit_in_word}
 
 abbrev one : (ℕ → ℕ → Bool) → ℕ → ℕ → List (ℕ × ℕ)
 one p i m = cond (p i m) ((i, m) ∷ []) []
@@ -295,3 +295,33 @@ word_bit ws n w i k r fits i_in r_in column_in =
   where
     place : (a w : ℕ) → a * (64 * w) ≡ 64 * (a * w)
     place a w = grind arith
+
+-- all bits of a row are within, where all its pairs are
+pub row_all : (ws : List ℕ) (n w p i : ℕ) → n ≤ 64 * w → p < n → i < n → HaveNoneAfter ws n (64 * w)
+    → ((j : ℕ) → has (table n (bit_of ws (64 * w))) p j ≡ true → has (table n (bit_of ws (64 * w))) i j ≡ true) → AreWithin ws (p * w) (i * w) (64 * w)
+row_all ws n w p i fits p_in i_in none pairs m below there =
+    ⊎_elim
+    (λ (l : m < n). ap (λ x. bit_in ws (x + m)) (sym (place i w))
+    ∙ sym (has_at ws ws n (64 * w) i m fits i_in l)
+    ∙ pairs m (has_at ws ws n (64 * w) p m fits p_in l ∙ ap (λ x. bit_in ws (x + m)) (place p w) ∙ there))
+    (λ (g : n ≤ m). absurd (cc (sym (ap (λ x. bit_in ws (x + m)) (place p w) ∙ there) ∙ none p m p_in g below)))
+    (split m n)
+  where
+    split : (m n : ℕ) → (m < n) ⊎ (n ≤ m)
+    split m n = grind arith
+
+    place : (a w : ℕ) → a * (64 * w) ≡ 64 * (a * w)
+    place a w = grind arith
+
+module _ (ws vs : List ℕ) (n s i j : ℕ) (fits : n ≤ s) (column_in : j < n) (none : HaveNoneAfter ws n s) where
+  not_here : (a b : ℕ) → n ≤ b → b < s → eqb (a * s + b) (i * s + j) ≡ false
+  not_here a b past below = row_place s i j a b (omega arith) below ∙ other
+    where
+      other : is_pair i j a b ≡ false
+      other = grind (arith, nat_tests)
+
+  pub none_raised : ((m : ℕ) → bit_in vs m ≡ (eqb m (i * s + j) || bit_in ws m)) → HaveNoneAfter vs n s
+  none_raised h a b a_in past below = h (a * s + b) ∙ ap (λ x. x || bit_in ws (a * s + b)) (not_here a b past below) ∙ none a b a_in past below
+
+  pub none_lowered : ((m : ℕ) → bit_in vs m ≡ (not (eqb m (i * s + j)) && bit_in ws m)) → HaveNoneAfter vs n s
+  none_lowered h a b a_in past below = h (a * s + b) ∙ ap (λ x. not x && bit_in ws (a * s + b)) (not_here a b past below) ∙ none a b a_in past below

@@ -4,10 +4,11 @@ use Rattle.std.proofs.Common.{w64}
 use Rattle.std.specs.Prelude.{bit_or, bit_and}
 use Rattle.std.specs.Int.{bit_at, bit_not}
 use Rattle.std.proofs.lemmas.Bool.Decides.{nat_tests, eqb_tells}
-use Rattle.std.proofs.lemmas.Nat.Bits.{bit_at_set_same, bit_at_set_other, bit_at_clear_same, bit_at_clear_other, bit_at_and, bit_at_not, bit_at-zero, bit_at-lt}
+use Rattle.std.proofs.lemmas.Nat.Bits.{bit_at_set_same, bit_at_set_other, bit_at_clear_same, bit_at_clear_other, bit_at_and, bit_at_not, bit_at-zero, bit_at-lt, same_from_bits_below}
 use Rattle.std.proofs.lemmas.Bool.{eqb-true, eq-eqb}
+use Rattle.std.proofs.lemmas.Nat.{and_le_l}
 use Rattle.std.proofs.Common.{get_or-set_other, get_or-set_same}
-use Rattle.sp_bits.specs.Table.{bit_in}
+use Rattle.sp_bits.specs.Table.{AreWithin, bit_in}
 
 parts_same : (m k : ℕ) → m / 64 ≡ k / 64 → m % 64 ≡ k % 64 → m ≡ k
 parts_same m k q r = omega arith
@@ -77,9 +78,6 @@ bit_in_word ws a k r l =
     let e = place_in a k r l in
     ap (λ q. eqb (bit_at (get_or ws q 0) ((64 * a + (64 * k + r)) % 64)) 1) e.0 ∙ ap (λ q. eqb (bit_at (get_or ws (a + k) 0) q) 1) e.1
 
-abbrev pub AreWithin : List ℕ → ℕ → ℕ → ℕ → Type 0
-AreWithin ws a b n = (m : ℕ) → m < n → bit_in ws (64 * a + m) ≡ true → bit_in ws (64 * b + m) ≡ true
-
 -- one more word
 pub next_word : (ws : List ℕ) (a b k : ℕ) → get_or ws (b + k) 0 < 2 ^ 64 → bit_and (get_or ws (a + k) 0) (bit_not w64 (get_or ws (b + k) 0)) ≡ 0
     → AreWithin ws a b (64 * k) → AreWithin ws a b (64 * (k + 1))
@@ -93,3 +91,22 @@ next_word ws a b k fits none before m below there =
     here r l e =
         let one : bit_at (get_or ws (a + k) 0) r ≡ 1 = eqb-true _ 1 (sym (bit_in_word ws a k r l) ∙ ap (λ x. bit_in ws (64 * a + x)) (sym e) ∙ there) in
         ap (λ x. bit_in ws (64 * b + x)) e ∙ bit_in_word ws b k r l ∙ eq-eqb _ 1 (bit_within _ _ r fits none l one)
+
+-- no bit of x is left after y's are taken away, where each bit of x is one of y
+none_left : (x y : ℕ) → x < 2 ^ 64 → y < 2 ^ 64 → ((r : ℕ) → r < 64 → bit_at x r ≡ 1 → bit_at y r ≡ 1) → bit_and x (bit_not w64 y) ≡ 0
+none_left x y x_fits y_fits within =
+    same_from_bits_below 64 (bit_and x (bit_not w64 y)) 0 (omega (arith, and_le_l x (bit_not w64 y))) (omega arith) (λ r below.
+    bit_at_and x (bit_not w64 y) r ∙ small (bit_at x r) (bit_at y r) (bit_at (bit_not w64 y) r) (bit_at-lt x r) (within r below) (bit_at_not w64 y r y_fits below) ∙ sym (bit_at-zero r))
+  where
+    small : (p q s : ℕ) → p < 2 → (p ≡ 1 → q ≡ 1) → s ≡ 1 - q → min p s ≡ 0
+    small p q s l one f = ⊎_elim (λ (e : p ≡ 0). omega arith) (λ (e : p ≡ 1). omega (arith, one e)) (split p l)
+      where
+        split : (p : ℕ) → p < 2 → (p ≡ 0) ⊎ (p ≡ 1)
+        split p l = grind arith
+
+-- the words at k, where the bits of all n words are within
+pub word_left : (ws : List ℕ) (a b n k : ℕ) → k < n → get_or ws (a + k) 0 < 2 ^ 64 → get_or ws (b + k) 0 < 2 ^ 64 → AreWithin ws a b (64 * n)
+    → bit_and (get_or ws (a + k) 0) (bit_not w64 (get_or ws (b + k) 0)) ≡ 0
+word_left ws a b n k below a_fits b_fits all =
+    none_left (get_or ws (a + k) 0) (get_or ws (b + k) 0) a_fits b_fits (λ r l one.
+    eqb-true _ 1 (sym (bit_in_word ws b k r l) ∙ all (64 * k + r) (omega arith) (bit_in_word ws a k r l ∙ eq-eqb _ 1 one)))

@@ -1,5 +1,5 @@
 -- A table of pairs below a count, as the list of its pairs in order.
-use Rattle.std.specs.Prelude.{◌≡◌, ◌==◌, ℕ, zero, suc, ◌+◌, ◌*◌, ◌/◌, ◌%◌, ◌||◌, ◌&&◌, not, Bool, cond, List, [], ◌∷◌, ◌++◌, slice_index, refl}
+use Rattle.std.specs.Prelude.{◌≡◌, ◌==◌, ℕ, zero, suc, ◌+◌, ◌*◌, ◌/◌, ◌%◌, ◌<◌, ◌≤◌, ◌||◌, ◌&&◌, not, Bool, true, false, cond, List, [], ◌∷◌, ◌++◌, slice_index, refl}
 use Rattle.std.specs.List.{list_any}
 use Rattle.std.specs.Int.{bit_at}
 use Rattle.std.specs.Coded.{Coded, code_by, coded×, coded_ℕ, coded_list}
@@ -58,3 +58,11 @@ bit_in words k = has_bit (slice_index words (k / 64)) (k % 64)
 -- the j-th bit of row i, where a row has this many bits
 abbrev pub bit_of : List ℕ → ℕ → ℕ → ℕ → Bool
 bit_of words bits i j = bit_in words (i * bits + j)
+
+-- no bit past the n-th is set in the first n rows, where a row has this many bits
+abbrev pub HaveNoneAfter : List ℕ → ℕ → ℕ → Type 0
+HaveNoneAfter words n bits = (i j : ℕ) → i < n → n ≤ j → j < bits → bit_of words bits i j ≡ false
+
+-- each of the n bits from word a on is one of those from word b on
+abbrev pub AreWithin : List ℕ → ℕ → ℕ → ℕ → Type 0
+AreWithin words a b n = (m : ℕ) → m < n → bit_in words (64 * a + m) ≡ true → bit_in words (64 * b + m) ≡ true

@@ -2,7 +2,7 @@
 #![tactic(auto)]
 
 ghost use Rattle.std.specs.Prelude.{◌≡◌, ◌==◌, ℕ, ◌<◌, ◌+◌, ◌*◌, ◌||◌, ◌&&◌, not, Bool, IfOk, length, IsTrue, slice_index, ◌≤◌, true, false};
-ghost use Rattle.sp_bits.specs.Table.{Bits, IsTable, empty_table, with_pair, without_pair, has, is_pair, bit_in, has_bit};
+ghost use Rattle.sp_bits.specs.Table.{Bits, IsTable, empty_table, with_pair, without_pair, has, is_pair, bit_in, has_bit, AreWithin};
 
 use sp_text::Memory;
 use std::alloc::Global;
@@ -19,7 +19,7 @@ pub struct BitTable {
 
 impl Model for BitTable {
     ghost use Rattle.std.specs.Prelude.{ℕ, ◌*◌, ◌≤◌, vec_len};
-    ghost use Rattle.sp_bits.specs.Table.{Bits, bits_code, table, bit_of};
+    ghost use Rattle.sp_bits.specs.Table.{Bits, HaveNoneAfter, bits_code, table, bit_of};
 
     ghost Value = { Bits };
 
@@ -27,7 +27,7 @@ impl Model for BitTable {
 
     ghost view = { λ t. table t.count (bit_of t.words.items (64 * t.width)) };
 
-    ghost invariant = { λ t. (t.count ≤ 64 * t.width) × (t.width ≤ 1024) × (t.count * t.width ≤ vec_len t.words) };
+    ghost invariant = { λ t. (t.count ≤ 64 * t.width) × (t.width ≤ 1024) × (t.count * t.width ≤ vec_len t.words) × HaveNoneAfter t.words.items t.count (64 * t.width) };
 }
 
 /// The place of the j-th bit of row i.
@@ -73,7 +73,8 @@ fn lower(words: &mut [u64], k: usize)
 fn is_within(words: &[u64], a: usize, b: usize, width: usize) -> bool
     requires a { a + width ≤ length words.now }
     requires b { b + width ≤ length words.now }
-    ensures { IsTrue result → (m : ℕ) → m < 64 * width → bit_in words.now (64 * a + m) ≡ true → bit_in words.now (64 * b + m) ≡ true }
+    ensures within { IsTrue result → AreWithin words.now a b (64 * width) }
+    ensures all { AreWithin words.now a b (64 * width) → IsTrue result }
 {
     for k in 0..width {
         if words[a + k] & !words[b + k] != 0 {
@@ -138,11 +139,12 @@ impl BitTable {
         self.get(i as u16, j as u16)
     }
 
-    /// Whether each pair (p, j) has its pair (i, j). A `false` promises nothing: ask pair by pair then.
+    /// Whether each pair (p, j) has its pair (i, j).
     pub fn is_row_within(&self, p: u16, i: u16) -> bool
         requires p { p < self.now.count }
         requires i { i < self.now.count }
-        ensures { IsTrue result → (j : ℕ) → has self.now p j ≡ true → has self.now i j ≡ true }
+        ensures within { IsTrue result → (j : ℕ) → has self.now p j ≡ true → has self.now i j ≡ true }
+        ensures all { ((j : ℕ) → has self.now p j ≡ true → has self.now i j ≡ true) → IsTrue result }
     {
         is_within(
             &self.words,

@@ -2,7 +2,7 @@ use Rattle.std.proofs.Common.{◌≡◌, ◌||◌, ℕ, ◌+◌, ◌*◌, ◌<�
 use Rattle.std.specs.Vec.{with_items}
 use Rattle.std.proofs.lemmas.List.{with_items_is}
 use Rattle.sp_bits.specs.Table.{bit_in, bit_of}
-use Rattle.sp_bits.proofs.Tables.{has_at, table_changed, has_raised, raised_again, one_more}
+use Rattle.sp_bits.proofs.Tables.{has_at, none_raised, table_changed, has_raised, raised_again, one_more}
 use Rattle.sp_bits.proofs.BitTable.set.Goals as goal
 
 pub returns-clause-table : goal.returns-clause-table
@@ -24,6 +24,16 @@ returns-clause-has c =
     let is_new : new.items ≡ c.raise.new.words = with_items_is s.words c.raise.new.words (omega arith) in
     let bits : (m : ℕ) → bit_in new.items m ≡ (eqb m (c.args.i * (64 * s.width) + c.args.j) || bit_in s.words.items m) = λ m. ap (λ ys. bit_in ys m) is_new ∙ c.raise.ensures m ∙ (cc (c.place-k.ensures.place, c.deref_mut.ensures.value)) in
     rw (← c.self.view_is) (has_raised s.words.items new.items s.count (64 * s.width) c.args.i c.args.j c.self.invariant.0 row_in column_in bits)
+
+pub invariant_of-self : goal.invariant_of-self
+invariant_of-self c =
+    let s = c.self.inside in
+    let column_in : c.args.j < s.count = rw (← c.self.view_is) at c.requires.j in
+    let new = with_items s.words c.raise.new.words in
+    let is_new : new.items ≡ c.raise.new.words = with_items_is s.words c.raise.new.words (omega arith) in
+    let bits : (m : ℕ) → bit_in new.items m ≡ (eqb m (c.args.i * (64 * s.width) + c.args.j) || bit_in s.words.items m) = λ m. ap (λ ys. bit_in ys m) is_new ∙ c.raise.ensures m ∙ (cc (c.place-k.ensures.place, c.deref_mut.ensures.value)) in
+    let i = c.self.invariant in
+    (i.0, i.1, i.2, none_raised s.words.items new.items s.count (64 * s.width) c.args.i c.args.j i.0 column_in i.3 bits)
 
 not_true : (b : Bool) → not b ≡ true → b ≡ false
 not_true true e = cc

@@ -1,6 +1,6 @@
 //! Steps that end in a clash.
 
-ghost use Rattle.std.specs.Prelude.{◌≡◌, IfOk, IsTrue};
+ghost use Rattle.std.specs.Prelude.{◌≡◌, ◌↔◌, IfOk, IsTrue};
 ghost use Rattle.sp_saturate.specs.Accepted.{EndInClash};
 ghost use Rattle.sp_saturate.specs.Front.{AreFront, turned};
 
@@ -55,7 +55,7 @@ pub fn front(alloc: Global, trail: &Trail) -> Result<Vec<Step>, Memory>
 
 /// Whether the last step is a clash.
 pub fn ends_in_clash(terms: &TermTable, steps: &[Step]) -> bool
-    ensures { IsTrue result → EndInClash terms.now steps.now }
+    ensures { IsTrue result ↔ EndInClash terms.now steps.now }
 {
     let count = steps.len();
     count > 0 && clashes(terms, steps[count - 1].fact)

@@ -156,7 +156,8 @@ impl<'a> Trail<'a> {
     pub fn is_equal_within(&self, p: u32, i: u32) -> bool
         requires p { p < count self.now.terms }
         requires i { i < count self.now.terms }
-        ensures { IsTrue result → (j : ℕ) → on self.now.steps (Fact.Eq p j) ≡ true → on self.now.steps (Fact.Eq i j) ≡ true }
+        ensures within { IsTrue result → (j : ℕ) → on self.now.steps (Fact.Eq p j) ≡ true → on self.now.steps (Fact.Eq i j) ≡ true }
+        ensures all { ((j : ℕ) → on self.now.steps (Fact.Eq p j) ≡ true → on self.now.steps (Fact.Eq i j) ≡ true) → IsTrue result }
     {
         self.eq.is_row_within(p as u16, i as u16)
     }
@@ -165,7 +166,8 @@ impl<'a> Trail<'a> {
     pub fn is_upper_within(&self, p: u32, i: u32) -> bool
         requires p { p < count self.now.terms }
         requires i { i < count self.now.terms }
-        ensures { IsTrue result → (j : ℕ) → on self.now.steps (Fact.Le p j) ≡ true → on self.now.steps (Fact.Le i j) ≡ true }
+        ensures within { IsTrue result → (j : ℕ) → on self.now.steps (Fact.Le p j) ≡ true → on self.now.steps (Fact.Le i j) ≡ true }
+        ensures all { ((j : ℕ) → on self.now.steps (Fact.Le p j) ≡ true → on self.now.steps (Fact.Le i j) ≡ true) → IsTrue result }
     {
         self.le.is_row_within(p as u16, i as u16)
     }

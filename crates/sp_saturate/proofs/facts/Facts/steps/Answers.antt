@@ -61,7 +61,7 @@ returns-then-ends_in_clash-clause-few c =
 pub returns-then-ends_in_clash-clause-ends : goal.returns-then-ends_in_clash-clause-ends
 returns-then-ends_in_clash-clause-ends c =
     rw (← c.self.view_is) (λ f w e. subst (λ (ts : Terms). EndInClash ts c.in_ok-pruned.pruned.items) c.terms-terms.ensures
-    (subst (λ (ss : List Step). EndInClash c.terms-terms.result.now ss) c.deref-3.ensures.value (c.ends_in_clash.ensures c.if-ends_in_clash.true)))
+    (subst (λ (ss : List Step). EndInClash c.terms-terms.result.now ss) c.deref-3.ensures.value (c.ends_in_clash.ensures.0 c.if-ends_in_clash.true)))
 
 pub returns-clause-accepted : goal.returns-clause-accepted
 returns-clause-accepted c =

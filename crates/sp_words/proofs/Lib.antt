@@ -1,0 +1,4 @@
+pub mod Leaves
+pub mod Top
+pub mod Verbs
+pub mod Walks

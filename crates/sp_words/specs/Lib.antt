@@ -1,0 +1,5 @@
+pub mod App
+pub mod Given
+pub mod Meant
+pub mod Verb
+pub mod Words

@@ -16,10 +16,12 @@ mod targets;
 mod tuples;
 mod variables;
 
+pub use adding::push_settled;
 pub use derivations::add_derivation;
 pub use exceptions::add_exceptions;
 pub use fault::FormulaFault;
 pub use guards::add_guards;
+pub use moves::{Renumbering, renumber};
 pub use one::add;
 pub use reading::walk;
 pub use spot::{Goal, Hypothesis, Level, Place, Subject};

@@ -1,0 +1,2 @@
+mod LeakyLemmas
+mod QuarrelLemmas

@@ -1,0 +1,2 @@
+pub mod Quarrel
+pub mod Theorems

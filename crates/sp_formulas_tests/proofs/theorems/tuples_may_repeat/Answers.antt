@@ -1,0 +1,5 @@
+use Rattle.sp_core.proofs.TreeLemmas.{tree_lemmas}
+use Rattle.sp_formulas_tests.proofs.theorems.tuples_may_repeat.Goals as goal
+
+pub returns : goal.returns
+returns c = λ o. simp tree_lemmas

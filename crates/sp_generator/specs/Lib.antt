@@ -1,0 +1,5 @@
+pub mod Collected
+pub mod Room
+pub mod Sites
+pub mod Pairs
+pub mod Listed

@@ -4,3 +4,5 @@ mod Following
 mod Faults
 mod Closes
 mod Lifting
+mod Raising
+mod Spelled

@@ -100,7 +100,7 @@ module _ (j : Judge) where
   same_end (suc k) c (s ∷ []) l = absurd (omega arith)
   same_end (suc k) c (s ∷ (t ∷ ss)) l = same_end k c (t ∷ ss) (omega arith)
 
-  following_follows : (h : Facts) (ss : List Step) → Follow h (following j h ss)
+  pub following_follows : (h : Facts) (ss : List Step) → Follow h (following j h ss)
   following_follows h [] = tt
   following_follows h (s ∷ ss) = by (j.lack h s) refl (following_follows (with_fact s.fact h) ss)
     where
@@ -119,10 +119,10 @@ module _ (j : Judge) where
   front_none : (ys : List Step) → Front [] ys
   front_none ys = record { rest = ys; is = refl }
 
-  front_then : (xs ys zs : List Step) → Front xs ys → Front ys zs → Front xs zs
+  pub front_then : (xs ys zs : List Step) → Front xs ys → Front ys zs → Front xs zs
   front_then xs ys zs f g = record { rest = f.rest ++ g.rest; is = g.is ∙ ap (λ l. l ++ g.rest) f.is ∙ append_assoc xs f.rest g.rest }
 
-  following_front : (h : Facts) (ss : List Step) → Front (following j h ss) ss
+  pub following_front : (h : Facts) (ss : List Step) → Front (following j h ss) ss
   following_front h [] = front_none []
   following_front h (s ∷ ss) = by (j.lack h s) (following_front (with_fact s.fact h) ss)
     where
@@ -138,7 +138,7 @@ module _ (j : Judge) where
       ap (λ x. step x s.rule s.p s.q) (is_fact-true s.fact t.fact a.0) ∙ ap (λ x. step t.fact x s.p s.q) (eqb-true s.rule t.rule b.0)
       ∙ ap (λ x. step t.fact t.rule x s.q) (eqb-true s.p t.p c.0) ∙ ap (step t.fact t.rule t.p) (eqb-true s.q t.q c.1)
 
-  common_fronts : (ss ts : List Step) → Front (common ss ts) ss × Front (common ss ts) ts
+  pub common_fronts : (ss ts : List Step) → Front (common ss ts) ss × Front (common ss ts) ts
   common_fronts [] ts = (front_none [], front_none ts)
   common_fronts (s ∷ ss) [] = (front_none (s ∷ ss), front_none [])
   common_fronts (s ∷ ss) (t ∷ ts) = by (same_step s t) refl (common_fronts ss ts)
@@ -147,7 +147,7 @@ module _ (j : Judge) where
       by true e r = (front_more s (common ss ts) ss r.0, subst (λ x. Front (s ∷ common ss ts) (x ∷ ts)) (same_step_is s t e) (front_more s (common ss ts) ts r.1))
       by false e r = (front_none (s ∷ ss), front_none (t ∷ ts))
 
-  front_taken : (xs ys : List Step) → Front xs ys → (take (length xs) ys ≡ xs) × (length xs ≤ length ys)
+  pub front_taken : (xs ys : List Step) → Front xs ys → (take (length xs) ys ≡ xs) × (length xs ≤ length ys)
   front_taken xs ys f = (ap (take (length xs)) f.is ∙ take-append_seam xs f.rest, omega (arith, ap length f.is, length-append xs f.rest))
 
   -- the counts don't matter to whether it checks

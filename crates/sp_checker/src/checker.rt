@@ -1,13 +1,17 @@
 //! A checker for one formula.
 
-ghost use Rattle.std.specs.Prelude.{◌≡◌, ◌*◌, ◌≤◌, All, IfOk, IsTrue, false, length};
+ghost use Rattle.std.specs.Prelude.{◌≡◌, ℕ, ◌*◌, ◌≤◌, All, IfOk, IsTrue, None, false, length};
 ghost use Rattle.sp_rules.specs.declared.fact.Fact.{Fact};
 ghost use Rattle.sp_rules.specs.Facts.{holds_in, is_one_of};
 ghost use Rattle.sp_rules.specs.Questions.{is_truth_below};
 ghost use Rattle.sp_rules.specs.Terms.{count as term_count};
 ghost use Rattle.sp_cert.specs.Tree.{tree};
+ghost use Rattle.sp_cert.specs.Within.{IsTree};
 ghost use Rattle.sp_checker.specs.Accepting.{answer, fault_for, outcome};
+ghost use Rattle.sp_checker.specs.Lifts.{IsLift};
+ghost use Rattle.sp_checker.specs.Migration.{IsPlain};
 
+use crate::lift::{LiftFault, lifted};
 use crate::trail::add;
 use crate::walk::tree_fault;
 use sp_bits::BitTable;
@@ -136,6 +140,30 @@ impl<'a> Checker<'a> {
             cert,
         );
         outcome(fault)
+    }
+
+    /// The certificate of the second format in which steps that both branches of a split need stand once above it. It
+    /// leaves the checker as it was. Only what checks is migrated, so the recursion is at most 21 nodes deep.
+    ///
+    /// # Errors
+    /// `Unchecked` with the fault that `accepts` answers where the certificate doesn't check; `Memory`.
+    pub fn lift(&mut self, alloc: Global, cert: &Cert) -> Result<Cert, LiftFault>
+        requires plain { IsPlain (tree cert.now) }
+        ensures same { self.new ≡ self.old }
+        ensures answer { IsLift self.old (tree cert.now) result }
+        ensures checks { IfOk result (λ c. fault_for self.old (tree c) ≡ None) }
+        ensures spelled { (depth : ℕ) → IsTree 1 depth (tree cert.now) → IfOk result (λ c. IsTree 2 64 (tree c)) }
+    {
+        let trail = self.trail.as_mut_slice();
+        let fault = fault_for(self.root, &mut self.eq, &mut self.le, trail, cert);
+        if let Some(fault) = fault {
+            return Err(LiftFault::Unchecked(fault));
+        }
+        let trail = self.trail.as_mut_slice();
+        let Ok(migrated) = lifted(alloc, self.root, &mut self.eq, &mut self.le, trail, cert) else {
+            return Err(LiftFault::Memory);
+        };
+        Ok(migrated)
     }
 }
 

@@ -1,0 +1,5 @@
+pub mod Faults
+pub mod Constants
+pub mod Expressions
+pub mod Formulas
+pub mod Answers

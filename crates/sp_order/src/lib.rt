@@ -1,0 +1,6 @@
+//! The order of the levels that an interface declares, and its lattice.
+#![tactic(auto)]
+
+mod order;
+
+pub use order::{has_levels, lattice_of};

@@ -1,0 +1,7 @@
+mod Made
+mod Rooms
+pub mod Known
+pub mod Names
+pub mod Asserted
+mod Equated
+mod Defining

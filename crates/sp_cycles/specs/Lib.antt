@@ -1,0 +1,3 @@
+pub mod Order
+pub mod Reaches
+pub mod Laws

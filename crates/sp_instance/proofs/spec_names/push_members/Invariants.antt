@@ -1,0 +1,7 @@
+use Rattle.std.proofs.Common.{◌≡◌, ◌++◌, take}
+use Rattle.std.specs.List.{flat_map}
+use Rattle.sp_core.specs.WellFormed.{members_of}
+use Rattle.sp_instance.proofs.spec_names.push_members.Given as goal
+
+abbrev pub invariant-loop-info : goal.invariant-loop-info
+invariant-loop-info l = l.names.items ≡ l.initial.names.items ++ flat_map members_of (take l.info-index l.types)

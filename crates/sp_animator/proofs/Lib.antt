@@ -1,1 +1,6 @@
 mod Purges
+mod RunLemmas
+mod CompareLemmas
+mod SecureLemmas
+mod ViewLemmas
+mod CompareFaults

@@ -11,8 +11,8 @@ use sp_text::Memory;
 use sp_values::{Args, Invocation};
 use std::alloc::Global;
 
-// Whether the level of the invocation is at or below this one.
-fn is_at_or_below(spec: &Spec, inst: &Instance, bound: u16, i: &Invocation) -> bool
+/// Whether the level of the invocation is at or below this one.
+pub fn is_at_or_below(spec: &Spec, inst: &Instance, bound: u16, i: &Invocation) -> bool
     requires instance { IsInstanceOf spec.now inst.now }
     requires invocation { IsInvocation (machine_of spec.now (filling_of inst.now)) i.now }
     requires level { bound < spec.now.lattice.count }

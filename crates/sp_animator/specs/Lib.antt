@@ -1,0 +1,4 @@
+pub mod Runs
+pub mod Comparing
+pub mod Views
+pub mod Laws

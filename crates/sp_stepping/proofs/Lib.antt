@@ -1,0 +1,5 @@
+mod RankCounts
+mod MomentLemmas
+mod ResultLemmas
+mod StepLemmas
+mod FaultLemmas

@@ -4,6 +4,8 @@
 #[cfg(test)]
 mod hostile;
 #[cfg(test)]
+mod migrated;
+#[cfg(test)]
 mod root;
 #[cfg(test)]
 mod texts;

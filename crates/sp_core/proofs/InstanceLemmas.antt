@@ -1,7 +1,11 @@
--- Reading a list of lists of names at an index.
-use Rattle.std.proofs.Common.{◌≡◌, sym, ap, arith, ℕ, zero, suc, ◌<◌, ◌≤◌, List, [], ◌∷◌, length, map}
-use Rattle.std.specs.Prelude.{slice_index_or}
+-- Reading a list of lists of names at an index, and the rows of a table by their arguments.
+use Rattle.std.proofs.Common.{◌≡◌, refl, sym, ◌∙◌, ap, arith, ℕ, zero, suc, ◌<◌, ◌≤◌, Bool, true, false, cond, List, [], ◌∷◌, length, map, Option, Some}
+use Rattle.std.specs.Prelude.{slice_index_or, unwrap_or}
 use Rattle.std.specs.List.{All}
+use Rattle.std.specs.Map.{lookup}
+use Rattle.sp_values.specs.declared.value.Value.{Value}
+use Rattle.sp_values.specs.Identity.{same_values, same_values_equivalence}
+use Rattle.sp_core.specs.Instances.{row_value}
 
 module _ {X : Type 0} (items : X → List (List ℕ)) where
   pub names-at : (vs : List X) (k : ℕ) (d : X) → k < length vs → d ≡ slice_index_or vs k d → slice_index_or (map items vs) k [] ≡ items d
@@ -26,3 +30,12 @@ module _ {X : Type 0} (items : X → List (List ℕ)) where
   within-at [] k l = l
   within-at (v ∷ vs) zero l = omega arith
   within-at (v ∷ vs) (suc k) l = let q = within-at vs k (omega (arith, l)) in omega (arith, q)
+
+-- the rows give the value that the map has at the arguments, and the other value where it has none
+pub row_value-lookup : (rs : List (List Value × Value)) (other : Value) (v : List Value) → row_value rs other v ≡ unwrap_or (lookup (same_values v) rs) other
+row_value-lookup [] other v = refl
+row_value-lookup (r ∷ rs) other v = (λ i. cond (same_values_equivalence.symm r.0 v i) r.1 (row_value-lookup rs other v i)) ∙ either (same_values v r.0) (lookup (same_values v) rs)
+  where
+    either : (b : Bool) (o : Option Value) → cond b r.1 (unwrap_or o other) ≡ unwrap_or (cond b (Some r.1) o) other
+    either true o = refl
+    either false o = refl

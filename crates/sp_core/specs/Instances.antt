@@ -11,7 +11,6 @@ use Rattle.sp_lattice.specs.Order.{is_below, join, meet}
 use Rattle.sp_core.specs.declared.function.Assertion.{Assertion}
 use Rattle.sp_core.specs.declared.function.Param.{Param}
 use Rattle.sp_core.specs.declared.function.TypeInfo.{TypeInfo}
-use Rattle.sp_core.specs.declared.instance.Table.{Table}
 use Rattle.sp_core.specs.Machine.{AreBindings, Machine, types_of}
 use Rattle.sp_core.specs.Parts.{Parts}
 use Rattle.sp_core.specs.Security.{IsSecureMachine}
@@ -19,15 +18,20 @@ use Rattle.sp_core.specs.Tree.{tree}
 use Rattle.sp_core.specs.Values.{World, is_true, nothing, value_of}
 use Rattle.sp_core.specs.WellFormed.{AreDifferent}
 
+-- what a contract sees of a parameter's table: the arguments and the value of each row, and the value at all other arguments
+pub record TableParts : Type 0 where
+  pub rows : List (List Value × Value)
+  pub other : Value
+
 -- the size of each declared type, any whole number, and a table for each parameter
 pub record Filling : Type 0 where
   pub sizes : List ℕ
-  pub tables : List Table
+  pub tables : List TableParts
 
 -- what a contract sees of an instance in memory: the names of each type's members, and the tables
 pub record InstanceParts : Type 0 where
   pub members : List (List (List ℕ))
-  pub tables : List Table
+  pub tables : List TableParts
 
 -- the sizes and tables of an instance in memory
 abbrev pub filling_of : InstanceParts → Filling
@@ -39,7 +43,7 @@ row_value [] other v = other
 row_value (r ∷ rs) other v = if same_values r.0 v then r.1 else row_value rs other v
 
 -- a parameter's value
-abbrev pub table_value : Option Table → List Value → Value
+abbrev pub table_value : Option TableParts → List Value → Value
 table_value None v = value.Unknown
 table_value (Some t) v = row_value t.rows t.other v
 
@@ -62,7 +66,7 @@ abbrev pub machine_of : Parts → Filling → Machine
 machine_of p i = record { world = world_of p i; functions = p.functions }
 
 -- a parameter's table: rows with different lists of values of the formals' types, and values of the parameter's type
-pub record IsTable (sizes : Sizes) (q : Param) (t : Table) : Type 0 where
+pub record IsTable (sizes : Sizes) (q : Param) (t : TableParts) : Type 0 where
   pub arguments : All (λ r. IsTrue (are_values sizes (types_of q.formals) r.0)) t.rows
   pub values : All (λ r. IsTrue (is_value sizes q.ty r.1)) t.rows
   pub other : IsTrue (is_value sizes q.ty t.other)
@@ -74,7 +78,7 @@ pub record IsInstance (p : Parts) (i : Filling) : Type 0 where
   pub sizes : length i.sizes ≡ length p.types
   pub enumerations : (k : ℕ) (info : TypeInfo) (names : List (List ℕ)) → slice_get p.types k ≡ Some info → info.members ≡ Some names → slice_get i.sizes k ≡ Some (length names)
   pub tables : length i.tables ≡ length p.params
-  pub each : (n : ℕ) (q : Param) (t : Table) → slice_get p.params n ≡ Some q → slice_get i.tables n ≡ Some t → IsTable (sizes_of p i) q t
+  pub each : (n : ℕ) (q : Param) (t : TableParts) → slice_get p.params n ≡ Some q → slice_get i.tables n ≡ Some t → IsTable (sizes_of p i) q t
 
 -- an instance in memory: at most 64 different names for each type, an enumeration's being those of its members
 pub record IsInstanceOf (p : Parts) (i : InstanceParts) : Type 0 where

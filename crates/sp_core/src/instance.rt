@@ -1,17 +1,68 @@
-ghost use Rattle.std.specs.Prelude.{◌≡◌, ◌<◌, ◌≤◌, length, map, slice_get, slice_index_or, Some, []};
+ghost use Rattle.std.specs.Prelude.{◌≡◌, ◌<◌, ◌≤◌, IfOk, OnOk, length, map, slice_get, slice_index_or, Some, []};
+ghost use Rattle.std.specs.Map.{lookup};
+ghost use Rattle.indexmap.specs.IndexMap.{insert_entry};
 ghost use Rattle.sp_text.specs.declared.limits.TheConstants.{MOST_POPULATION};
+ghost use Rattle.sp_values.specs.Identity.{same_values};
 ghost use Rattle.sp_core.specs.Instances.{IsInstanceOf, InstanceParts, filling_of, row_value, table_value};
 
 use crate::spec::Spec;
-use sp_text::{Name, Sequence};
+use indexmap::IndexMap;
+use sp_text::{Memory, Name};
 use sp_values::{Args, Value};
+use std::alloc::Global;
 use std::marker::Model;
 
-/// The values of a parameter: those of its rows, and the value at all other arguments.
+/// The values of a parameter: those of its rows, found by their arguments, and the value at all other arguments.
 #[derive(Drop)]
 pub struct Table {
-    pub rows: Sequence<(Args, Value)>,
-    pub other: Value,
+    rows: IndexMap<Args, Value>,
+    other: Value,
+}
+
+impl Model for Table {
+    ghost use Rattle.std.specs.Coded.{codes};
+    ghost use Rattle.sp_core.specs.Instances.{TableParts};
+
+    ghost Value = { TableParts };
+
+    ghost coded = { Prim.hlevel codes };
+
+    ghost view = { λ t. record { rows = t.rows.entries; other = t.other } };
+}
+
+impl Table {
+    /// A table without rows, which has this value at all arguments. It takes no memory, and the table keeps the
+    /// allocator.
+    pub fn new(alloc: Global, other: Value) -> Table
+        ensures { result ≡ record { rows = []; other = other } }
+    {
+        Table {
+            rows: IndexMap::new(alloc),
+            other,
+        }
+    }
+
+    /// Gives the arguments this value, and tells the one that they had.
+    ///
+    /// # Errors
+    /// `Memory` where the row can't be stored.
+    pub fn insert(&mut self, args: Args, value: Value) -> Result<Option<Value>, Memory>
+        ensures rows { OnOk result (self.new.rows ≡ insert_entry same_values self.old.rows args value) }
+        ensures earlier { IfOk result (λ earlier. earlier ≡ lookup (same_values args) self.old.rows) }
+        ensures other { self.new.other ≡ self.old.other }
+    {
+        match self.rows.insert(args, value) {
+            Ok(earlier) => Ok(earlier),
+            Err(_) => Err(Memory),
+        }
+    }
+
+    // The value at arguments.
+    fn at(&self, args: &Args) -> Value
+        ensures { result ≡ row_value self.now.rows self.now.other args.now }
+    {
+        self.rows.get(args).copied().unwrap_or(self.other)
+    }
 }
 
 /// An instance of a specification: the names of each declared type's members, and a table for each parameter.
@@ -35,18 +86,6 @@ impl Model for Instance {
     ghost view = { λ i. record { members = map (λ names. names.items) i.members.items; tables = i.tables.items } };
 
     ghost invariant = { λ i. All (λ names. length names ≤ MOST_POPULATION) (map (λ names. names.items) i.members.items) };
-}
-
-// The value of the first row with these arguments, or the other value.
-fn value_at(rows: &[(Args, Value)], other: Value, args: &Args) -> Value
-    ensures { result ≡ row_value rows.now other args.now }
-{
-    for (row, value) in rows {
-        if row == args {
-            return *value;
-        }
-    }
-    other
 }
 
 impl Instance {
@@ -83,8 +122,7 @@ impl Instance {
         requires { p < length self.now.tables }
         ensures { result ≡ table_value (slice_get self.now.tables p) args.now }
     {
-        let table = &self.tables[p as usize];
-        value_at(table.rows.items(), table.other, args)
+        self.tables[p as usize].at(args)
     }
 
     /// The name of a member of a declared type.

@@ -14,8 +14,7 @@ use Rattle.sp_core.specs.declared.function.Function.{Function}
 use Rattle.sp_core.specs.declared.function.Kind.TheVariants as kind
 use Rattle.sp_core.specs.declared.function.Param.{Param}
 use Rattle.sp_core.specs.declared.function.TypeInfo.{TypeInfo}
-use Rattle.sp_core.specs.declared.instance.Table.{Table}
-use Rattle.sp_core.specs.Instances.{InstanceParts}
+use Rattle.sp_core.specs.Instances.{InstanceParts, TableParts}
 use Rattle.sp_core.specs.Parts.{Parts}
 use Rattle.sp_examples.specs.Common.{designator, function, look_at, low}
 
@@ -93,15 +92,15 @@ clearances order = record {
 -- Instances
 
 -- a table that gives one level everywhere
-abbrev pub everywhere : ℕ → Table
+abbrev pub everywhere : ℕ → TableParts
 everywhere l = record { rows = []; other = value.Level l }
 
 -- a table that gives HIGH at the first user, and LOW at the others
-abbrev pub high_for_first : Table
+abbrev pub high_for_first : TableParts
 high_for_first = record { rows = (value.Member 0 0 ∷ [], value.Level 1) ∷ []; other = value.Level 0 }
 
 -- an instance with these users and tables
-abbrev pub instance_of : List (List ℕ) → Table → Table → InstanceParts
+abbrev pub instance_of : List (List ℕ) → TableParts → TableParts → InstanceParts
 instance_of users clr base = record { members = users ∷ colours ∷ []; tables = clr ∷ base ∷ [] }
 
 abbrev pub one_user : List (List ℕ)

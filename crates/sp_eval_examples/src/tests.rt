@@ -236,21 +236,15 @@ fn counting(alloc: Global) -> Result<Spec, Memory>
 fn everywhere(alloc: Global, l: u16) -> Table
     ensures { result ≡ everywhere l }
 {
-    Table {
-        rows: Sequence::new(Vec::new(alloc)),
-        other: Value::Level(l),
-    }
+    Table::new(alloc, Value::Level(l))
 }
 
 fn high_for_first(alloc: Global) -> Result<Table, Memory>
     ensures { IfOk result (λ table. table ≡ high_for_first) }
 {
-    let mut rows = Vec::new(alloc);
-    rows.push((Args::new(&[Value::Member(0, 0)]), Value::Level(1)))?;
-    Ok(Table {
-        rows: Sequence::new(rows),
-        other: LOW,
-    })
+    let mut table = Table::new(alloc, LOW);
+    table.insert(Args::new(&[Value::Member(0, 0)]), Value::Level(1))?;
+    Ok(table)
 }
 
 fn one_user(alloc: Global) -> Result<Vec<Name>, Memory>

@@ -18,8 +18,7 @@ use Rattle.sp_core.specs.declared.function.Function.{Function}
 use Rattle.sp_core.specs.declared.function.Param.{Param}
 use Rattle.sp_core.specs.declared.function.TypeInfo.{TypeInfo}
 use Rattle.sp_core.specs.declared.function.Answer.TheVariants as answer
-use Rattle.sp_core.specs.declared.instance.Table.{Table}
-use Rattle.sp_core.specs.Instances.{IsAdmissible, IsAsserted, IsInstanceOf, IsTable, filling_of, machine_of, world_of}
+use Rattle.sp_core.specs.Instances.{IsAdmissible, IsAsserted, IsInstanceOf, IsTable, TableParts, filling_of, machine_of, world_of}
 use Rattle.sp_core.specs.Machine.{ChangesByRank, IsHeld, IsResult, Machine, Outcome, Run, Step, first_exception, initial_state, types_of}
 use Rattle.sp_core.specs.Ranks.{change_reads}
 use Rattle.sp_core.specs.Effects.{GuardedResult, changes_in, effect_trees, results_in}
@@ -220,7 +219,7 @@ small_is_instance es name o count = record {
     declared (suc zero) info names e f = let g : None ≡ Some names = ap (λ (x : TypeInfo). x.members) (some_same e) ∙ f in cc
     declared (suc (suc k)) info names e f = cc
 
-    each : (n : ℕ) (q : Param) (t : Table) → slice_get (level_param (codes "clr") user ∷ level_param (codes "cls") file ∷ []) n ≡ Some q → slice_get (high_at 0 0 ∷ high_at 1 1 ∷ []) n ≡ Some t → IsTable (small_sizes o.count) q t
+    each : (n : ℕ) (q : Param) (t : TableParts) → slice_get (level_param (codes "clr") user ∷ level_param (codes "cls") file ∷ []) n ≡ Some q → slice_get (high_at 0 0 ∷ high_at 1 1 ∷ []) n ≡ Some t → IsTable (small_sizes o.count) q t
     each zero q t e f = subst (λ (p : Param). IsTable (small_sizes o.count) p t) (some_same e) (subst (IsTable (small_sizes o.count) (level_param (codes "clr") user)) (some_same f) (high_fine o.count count 0 0 user (codes "clr") refl))
     each (suc zero) q t e f = subst (λ (p : Param). IsTable (small_sizes o.count) p t) (some_same e) (subst (IsTable (small_sizes o.count) (level_param (codes "cls") file)) (some_same f) (high_fine o.count count 1 1 file (codes "cls") refl))
     each (suc (suc n)) q t e f = cc
@@ -331,5 +330,5 @@ files_assemble o name levels types params assertions functions lattice order a b
     subst IsWellFormed (sym (λ i. record { name = a i; lattice = o; level_names = b i; types = c i; params = d i; assertions = e i; functions = f i })) (files_well_formed o lattice order.count_same)
 
 -- members and tables that are those of the instance are one
-pub small_assembles : (p : Parts) (members : List (List (List ℕ))) (tables : List Table) → AreOverLowHigh files p → members ≡ small.members → tables ≡ small.tables → IsInstanceOf p (record { members = members; tables = tables })
+pub small_assembles : (p : Parts) (members : List (List (List ℕ))) (tables : List TableParts) → AreOverLowHigh files p → members ≡ small.members → tables ≡ small.tables → IsInstanceOf p (record { members = members; tables = tables })
 small_assembles p members tables a e f = subst (IsInstanceOf p) (sym (λ i. record { members = e i; tables = f i })) (subst (λ q. IsInstanceOf q small) (sym a.parts) (small_is_instance no_write (codes "files") p.lattice a.order.count_same))

@@ -13,8 +13,7 @@ use Rattle.sp_core.specs.declared.function.Function.{Function}
 use Rattle.sp_core.specs.declared.function.Kind.TheVariants as kind
 use Rattle.sp_core.specs.declared.function.Param.{Param}
 use Rattle.sp_core.specs.declared.function.TypeInfo.{TypeInfo}
-use Rattle.sp_core.specs.declared.instance.Table.{Table}
-use Rattle.sp_core.specs.Instances.{InstanceParts}
+use Rattle.sp_core.specs.Instances.{InstanceParts, TableParts}
 use Rattle.sp_core.specs.Parts.{Parts}
 use Rattle.sp_examples.specs.Common.{designator}
 
@@ -106,7 +105,7 @@ abbrev pub leaky : Order → Parts
 leaky = files_with [] (codes "leaky")
 
 -- a table that gives HIGH at one member of a type, and LOW at the others
-abbrev pub high_at : ℕ → ℕ → Table
+abbrev pub high_at : ℕ → ℕ → TableParts
 high_at k m = record { rows = (value.Member k m ∷ [], value.Level 1) ∷ []; other = value.Level 0 }
 
 -- users alice and bob, files memo and plan: alice and plan are HIGH

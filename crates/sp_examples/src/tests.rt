@@ -195,12 +195,9 @@ fn files(alloc: Global) -> Result<Spec, Memory>
 fn high_at(alloc: Global, ty: u16, k: u16) -> Result<Table, Memory>
     ensures { IfOk result (λ table. table ≡ high_at ty k) }
 {
-    let mut rows = Vec::new(alloc);
-    rows.push((Args::new(&[Value::Member(ty, k)]), HIGH))?;
-    Ok(Table {
-        rows: Sequence::new(rows),
-        other: LOW,
-    })
+    let mut table = Table::new(alloc, LOW);
+    table.insert(Args::new(&[Value::Member(ty, k)]), HIGH)?;
+    Ok(table)
 }
 
 fn members(alloc: Global) -> Result<Vec<Vec<Name>>, Memory>

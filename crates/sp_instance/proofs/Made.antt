@@ -16,8 +16,7 @@ use Rattle.sp_tree.specs.declared.names.Ident.{Ident}
 use Rattle.sp_naming.specs.Names.{is_among, repeated_names}
 use Rattle.sp_core.specs.declared.function.Param.{Param}
 use Rattle.sp_core.specs.declared.function.TypeInfo.{TypeInfo}
-use Rattle.sp_core.specs.declared.instance.Table.{Table}
-use Rattle.sp_core.specs.Instances.{IsInstance, IsInstanceOf, IsTable, filling_of, sizes_of}
+use Rattle.sp_core.specs.Instances.{IsInstance, IsInstanceOf, IsTable, TableParts, filling_of, sizes_of}
 use Rattle.sp_core.specs.Machine.{types_of}
 use Rattle.sp_core.specs.Parts.{Parts}
 use Rattle.sp_core.specs.WellFormed.{AreDifferent, IsWellFormed, members_of}
@@ -97,7 +96,7 @@ members_kept p t k i names e m = got_map (type_members t.populations) p.types k 
 less : (m n : ℕ) → m < n → nat_lt m n ≡ true
 less m n h = grind (arith, rules)
 
-pub fit : (p : Parts) → IsWellFormed p → (members : List (List (List ℕ))) (tables : List Table) →
+pub fit : (p : Parts) → IsWellFormed p → (members : List (List (List ℕ))) (tables : List TableParts) →
     IsFit (sizes_of p (filling_of (record { members = members; tables = tables }))) (words_of p members)
 fit p wf members tables = record {
   levels = wf.level_names;

@@ -1,7 +1,7 @@
 -- The tables that an instance's text gives the parameters, and what they break.
 use Rattle.std.specs.Prelude.{◌≡◌, ℕ, Bool, false, List, [], ◌∷◌, ◌++◌, map, Option, Some, None, is_some, if◌then◌else◌}
-use Rattle.std.specs.HashMap.{HashMap, get_by}
 use Rattle.std.specs.List.{flat_map, list_any}
+use Rattle.std.specs.Map.{lookup}
 use Rattle.sp_text.specs.declared.fault.Rule.TheVariants as rule
 use Rattle.sp_text.specs.declared.fault.Span.{Span}
 use Rattle.sp_text.specs.declared.violation.Violation.{Violation}
@@ -14,7 +14,7 @@ use Rattle.sp_tree.specs.declared.instance.ValueTree.{ValueTree}
 use Rattle.sp_tree.specs.declared.names.Ident.{Ident}
 use Rattle.sp_naming.specs.Names.{is_among, repeat_rule}
 use Rattle.sp_core.specs.declared.function.Param.{Param}
-use Rattle.sp_core.specs.declared.instance.Table.{Table}
+use Rattle.sp_core.specs.Instances.{TableParts}
 use Rattle.sp_core.specs.Machine.{types_of}
 use Rattle.sp_instance.specs.Words.{Words}
 use Rattle.sp_instance.specs.Meanings.{arguments_broken, arguments_in, value_broken, value_in}
@@ -78,15 +78,15 @@ abbrev pub keys_after : (RowText → Option (List Value)) → List (List Value) 
 keys_after key before [] = before
 keys_after key before (r ∷ rs) = keys_after key (with_key before (key r)) rs
 
--- what a set of arguments holds, by its index
-abbrev pub holds_arguments : {S : Type 0} → HashMap (List Value) ℕ S → List Value → Bool
-holds_arguments index a = is_some (get_by (λ key. same_values a key) index)
+-- whether one of the rows that a table has so far is of the arguments
+abbrev pub have_arguments : List (List Value × Value) → List Value → Bool
+have_arguments rows a = is_some (lookup (same_values a) rows)
 
 abbrev pub IsSetOf : List (List Value) → (List Value → Bool) → Type 0
 IsSetOf before holds = (a : List Value) → holds a ≡ is_one_of before a
 
 -- what a table of the parameter stands for
-abbrev pub table_of : Words → Param → TableTree → Table
+abbrev pub table_of : Words → Param → TableTree → TableParts
 table_of w q t = record { rows = map (row_of w q) t.rows; other = value_in w false q.ty t.other }
 
 abbrev pub table_broken : Words → Param → TableTree → List Violation
@@ -96,11 +96,11 @@ table_broken w q t =
     ++ value_broken w false q.ty t.other
 
 -- the table of a parameter is the first of its name
-abbrev pub table_given : Words → Param → Option TableTree → Table
+abbrev pub table_given : Words → Param → Option TableTree → TableParts
 table_given w q None = record { rows = []; other = value.Unknown }
 table_given w q (Some t) = table_of w q t
 
-abbrev pub param_table : Words → List TableTree → Param → Table
+abbrev pub param_table : Words → List TableTree → Param → TableParts
 param_table w tables q = table_given w q (table_named tables q.name)
 
 abbrev pub given_broken : Words → Param → Option TableTree → List Violation

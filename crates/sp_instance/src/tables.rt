@@ -1,6 +1,6 @@
 //! Tables of parameters.
 
-ghost use Rattle.std.specs.Prelude.{◌≡◌, ◌≤◌, [], IfOk, length, map, option_copied};
+ghost use Rattle.std.specs.Prelude.{◌≡◌, ◌≤◌, [], IfOk, None, length, map, option_copied};
 ghost use Rattle.std.specs.List.{All, flat_map};
 ghost use Rattle.sp_text.specs.Violations.{first};
 ghost use Rattle.sp_instance.specs.Heads.{names_in};
@@ -9,15 +9,15 @@ ghost use Rattle.sp_instance.specs.Tables.{given_broken, param_broken, param_tab
 
 use crate::heads::find;
 use crate::names::NameList;
-use crate::rows::{repeated_rows, rows};
+use crate::rows::add_row;
 use crate::vocabulary::Vocabulary;
 use sp_core::{Param, Table};
-use sp_text::{Memory, Rule, Sequence, Span, Violation, breaks, earlier};
+use sp_text::{Memory, Rule, Span, Violation, breaks, earlier};
 use sp_tree::TableTree;
 use sp_values::Value;
 use std::alloc::Global;
 
-// What a table of the parameter stands for, with the first of what it breaks.
+// What a table of the parameter stands for, where it breaks nothing, with the first of what it breaks.
 fn table(
     alloc: Global,
     words: &Vocabulary,
@@ -25,18 +25,20 @@ fn table(
     text: &TableTree,
 ) -> Result<(Table, Option<Violation>), Memory>
     requires { length param.now.formals ≤ 8 }
-    ensures made { IfOk result (λ r. r.0 ≡ table_of words.now param.now text.now) }
+    ensures made { IfOk result (λ r. r.1 ≡ None → r.0 ≡ table_of words.now param.now text.now) }
     ensures found { IfOk result (λ r. r.1 ≡ first (table_broken words.now param.now text.now)) }
 {
-    let name = text.name.span;
-    let (made, here) = rows(alloc, words, param, name, text.rows.items())?;
-    let repeated = repeated_rows(alloc, words, param, name, text.rows.items())?;
+    let rows = text.rows.items();
     let (other, there) = words.value(false, param.ty, &text.other);
-    let rows = Sequence::new(made);
-    Ok((
-        Table { rows, other },
-        earlier(earlier(here, repeated), there),
-    ))
+    let mut table = Table::new(alloc, other);
+    let mut own = None;
+    let mut repeated = None;
+    for row in rows {
+        let broken = add_row(&mut table, words, param, text.name.span, row)?;
+        own = earlier(own, broken.0);
+        repeated = earlier(repeated, broken.1);
+    }
+    Ok((table, earlier(earlier(own, repeated), there)))
 }
 
 // The same of a table that may be there.
@@ -47,22 +49,16 @@ fn given(
     text: Option<&TableTree>,
 ) -> Result<(Table, Option<Violation>), Memory>
     requires { length param.now.formals ≤ 8 }
-    ensures made { IfOk result (λ r. r.0 ≡ table_given words.now param.now (option_copied text.entry)) }
+    ensures made { IfOk result (λ r. r.1 ≡ None → r.0 ≡ table_given words.now param.now (option_copied text.entry)) }
     ensures found { IfOk result (λ r. r.1 ≡ first (given_broken words.now param.now (option_copied text.entry))) }
 {
     match text {
         Some(text) => table(alloc, words, param, text),
-        None => {
-            let none = Table {
-                rows: Sequence::new(Vec::new(alloc)),
-                other: Value::Unknown,
-            };
-            Ok((none, None))
-        }
+        None => Ok((Table::new(alloc, Value::Unknown), None)),
     }
 }
 
-/// The tables of the parameters, with the first of what they break.
+/// The tables of the parameters, where they break nothing, with the first of what they break.
 ///
 /// # Errors
 /// `Memory` where they can't be stored.
@@ -75,7 +71,7 @@ pub fn all_tables(
 ) -> Result<(Vec<Table>, Option<Violation>), Memory>
     requires few { All (λ q. length q.formals ≤ 8) params.now }
     requires names { names.now ≡ names_in (map table_head texts.now) }
-    ensures made { IfOk result (λ r. r.0.items ≡ map (param_table words.now texts.now) params.now) }
+    ensures made { IfOk result (λ r. r.1 ≡ None → r.0.items ≡ map (param_table words.now texts.now) params.now) }
     ensures found { IfOk result (λ r. r.1 ≡ first (flat_map (param_broken words.now texts.now) params.now)) }
 {
     let mut all = Vec::new(alloc);

@@ -2,7 +2,6 @@ use Rattle.std.proofs.Common.{◌≡◌, ◌≤◌, sym, ◌∙◌, ap, subst, L
 use Rattle.std.specs.Prelude.{map, Some}
 use Rattle.std.specs.List.{All, flat_map}
 use Rattle.sp_text.specs.Violations.{first}
-use Rattle.sp_core.specs.declared.instance.Table.{Table}
 use Rattle.sp_core.specs.Instances.{IsInstanceOf}
 use Rattle.sp_instance.specs.Words.{AreFew, words_of}
 use Rattle.sp_instance.specs.Heads.{names_in}

@@ -1,5 +1,5 @@
 -- What follows from given facts is what a closed trail has.
-use Rattle.std.proofs.Common.{◌≡◌, ℕ, zero, suc, ◌+◌, ◌-◌, ◌<◌, ◌≤◌, ◌⊎◌, ⊎_elim, ◌||◌, ◌&&◌, not, Bool, true, false, cond, eqb, ltb, List, [], ◌∷◌, ◌++◌, length, take, drop, get_or, refl, sym, ap, ◌∙◌, subst, arith, add-one}
+use Rattle.std.proofs.Common.{◌≡◌, ℕ, zero, suc, ◌+◌, ◌<◌, ◌≤◌, ◌⊎◌, ⊎_elim, ◌||◌, ◌&&◌, not, Bool, true, false, cond, eqb, ltb, List, [], ◌∷◌, ◌++◌, length, take, drop, get_or, refl, sym, ap, ◌∙◌, subst, arith, add-one}
 use Rattle.std.specs.Prelude.{All, IsTrue, slice_index}
 use Rattle.std.proofs.lemmas.List.Elements.{All-append}
 use Rattle.std.proofs.lemmas.Bool.{eq-eqb}
@@ -10,7 +10,7 @@ use Rattle.std.proofs.Math.Seq.{take-length, take-append_seam, get_or-append_sea
 use Rattle.sp_rules.specs.Terms.{Terms, count}
 use Rattle.sp_rules.specs.Table.{in_range}
 use Rattle.sp_rules.specs.Follows.{Follows, start}
-use Rattle.sp_rules.specs.Laws.{IsClosed}
+use Rattle.sp_rules.specs.Laws.{AreIn, IsClosed}
 use Rattle.sp_rules.specs.declared.fact.Fact.{Fact}
 use Rattle.sp_rules.specs.declared.fact.Fact.TheVariants.{Eq, Le}
 use Rattle.sp_rules.specs.declared.fact.Step.{Step}
@@ -145,19 +145,39 @@ module _ (q : Question) (steps : List Step) (assumed : List Fact) (starts : List
   split_last : (k n : ℕ) → k < n + 1 → (k < n) ⊎ (k ≡ n)
   split_last k n l = grind arith
 
-  -- an assumption more
-  module _ (f : Fact) (truth : is_truth_below (count q.terms) f ≡ true) (b : Found) (terms : b.terms ≡ ts) (x : Extends (record { terms = ts; steps = with_given steps f }) b) (closed : IsClosed b.terms (on b.steps)) (fewer : length assumed < 20) where
-    front : take (length steps) b.steps ≡ steps
+  -- a trail to which an assumption more was given
+  module _ (f : Fact) (b : Found) (x : Extends (record { terms = ts; steps = with_given steps f }) b) where
+    pub front : take (length steps) b.steps ≡ steps
     front =
         sym (take-take (length steps) (length (with_given steps f)) b.steps (with_given-longer steps f)) ∙ ap (take (length steps)) x.kept ∙ with_given-kept steps f
 
-    longer : length steps ≤ length b.steps
+    pub longer : length steps ≤ length b.steps
     longer = omega (arith, with_given-longer steps f, x.longer)
 
+    pub given_only_more : AreIn (given_on b.steps) (is_one_of (facts ++ (assumed ++ f ∷ [])))
+    given_only_more g e =
+        ap (λ fs. is_one_of fs g) (sym (append_assoc facts assumed (f ∷ []))) ∙ one_of-append (facts ++ assumed) f g ∙
+        ⊎_elim (λ h. first_holds _ _ (kept.whole.given_only g h)) (λ h. second_holds (is_one_of (facts ++ assumed) g) _ (both_hold _ _ h).1) (one_holds _ _ (sym (x.given_same g ∙ given-with_given steps f g) ∙ e))
+
+  pub truths_more : (f : Fact) → is_truth_below (count q.terms) f ≡ true → All (λ g. IsTrue (is_truth_below (count q.terms) g)) (assumed ++ f ∷ [])
+  truths_more f truth = All-append (λ g. IsTrue (is_truth_below (count ts) g)) assumed (f ∷ []) kept.truths last_truth
+    where
+      last_truth : All (λ g. IsTrue (is_truth_below (count ts) g)) (f ∷ [])
+      last_truth zero d l = truth
+      last_truth (suc k) d l = absurd (omega arith)
+
+  pub assumed_again : (f : Fact) → take (length starts) (assumed ++ f ∷ []) ≡ assumed
+  assumed_again f = ap (λ n. take n (assumed ++ f ∷ [])) kept.as_many ∙ take-append_seam assumed (f ∷ [])
+
+  -- what was given besides is taken back
+  pub kept_again : (f : Fact) (b : Found) → Extends (record { terms = ts; steps = with_given steps f }) b → AreKept q (take (length steps) b.steps) (take (length starts) (assumed ++ f ∷ [])) starts
+  kept_again f b x = subst (λ z. AreKept q z (take (length starts) (assumed ++ f ∷ [])) starts) (sym (front f b x)) (subst (λ z. AreKept q steps z starts) (sym (assumed_again f)) kept)
+
+  -- an assumption more
+  module _ (f : Fact) (truth : is_truth_below (count q.terms) f ≡ true) (b : Found) (terms : b.terms ≡ ts) (x : Extends (record { terms = ts; steps = with_given steps f }) b) (closed : IsClosed b.terms (on b.steps)) (fewer : length assumed < 20) where
     whole_more : IsLevel b.terms b.steps (facts ++ (assumed ++ f ∷ []))
     whole_more = record {
-      given_only = λ g e. ap (λ fs. is_one_of fs g) (sym (append_assoc facts assumed (f ∷ []))) ∙ one_of-append (facts ++ assumed) f g ∙
-          ⊎_elim (λ h. first_holds _ _ (kept.whole.given_only g h)) (λ h. second_holds (is_one_of (facts ++ assumed) g) _ (both_hold _ _ h).1) (one_holds _ _ (sym (x.given_same g ∙ given-with_given steps f g) ∙ e));
+      given_only = given_only_more f b x;
       has = λ g e. on_extended (record { terms = ts; steps = with_given steps f }) b x g (on-with_given steps f g ∙
           ⊎_elim (λ h. first_holds _ _ (kept.whole.has g h)) (λ h. second_holds (on steps g) _ h) (one_holds _ _ (sym (ap (λ fs. is_one_of fs g) (sym (append_assoc facts assumed (f ∷ []))) ∙ one_of-append (facts ++ assumed) f g) ∙ e)));
       closed = closed;
@@ -169,20 +189,13 @@ module _ (q : Question) (steps : List Step) (assumed : List Fact) (starts : List
     last_start : slice_index (starts ++ length steps ∷ []) (length starts) ≡ length steps
     last_start = get_or-append_seam starts (length steps) [] 0
 
-    truths_more : All (λ g. IsTrue (is_truth_below (count ts) g)) (assumed ++ f ∷ [])
-    truths_more = All-append (λ g. IsTrue (is_truth_below (count ts) g)) assumed (f ∷ []) kept.truths last_truth
-      where
-        last_truth : All (λ g. IsTrue (is_truth_below (count ts) g)) (f ∷ [])
-        last_truth zero d l = truth
-        last_truth (suc k) d l = absurd (omega arith)
-
     pub kept_more : AreKept (record { terms = b.terms; given = q.given; atoms = q.atoms }) b.steps (assumed ++ f ∷ []) (starts ++ length steps ∷ [])
     kept_more = record {
       question = subst (λ t. IsQuestion (record { terms = t; given = q.given; atoms = q.atoms })) (sym terms) kept.question;
-      truths = subst (λ t. All (λ g. IsTrue (is_truth_below (count t) g)) (assumed ++ f ∷ [])) (sym terms) truths_more;
+      truths = subst (λ t. All (λ g. IsTrue (is_truth_below (count t) g)) (assumed ++ f ∷ [])) (sym terms) (truths_more f truth);
       as_many = length-append starts (length steps ∷ []) ∙ ap (λ n. n + 1) kept.as_many ∙ sym (length-append assumed (f ∷ []));
       few = omega (arith, length-append assumed (f ∷ []));
-      within = λ k l. ⊎_elim (λ (m : k < length starts). omega (arith, start_at k m, kept.within k m, longer)) (λ (m : k ≡ length starts). omega (arith, ap (slice_index (starts ++ length steps ∷ [])) m, last_start, longer)) (split_last k (length starts) (omega (arith, l, length-append starts (length steps ∷ []))));
+      within = λ k l. ⊎_elim (λ (m : k < length starts). omega (arith, start_at k m, kept.within k m, longer f b x)) (λ (m : k ≡ length starts). omega (arith, ap (slice_index (starts ++ length steps ∷ [])) m, last_start, longer f b x)) (split_last k (length starts) (omega (arith, l, length-append starts (length steps ∷ []))));
       rising = λ j k m l. ⊎_elim (λ (n : k < length starts). omega (arith, start_at j (omega arith), start_at k n, kept.rising j k m n))
           (λ (n : k ≡ length starts). omega (arith, ap (slice_index (starts ++ length steps ∷ [])) n, last_start, start_at j (omega arith), kept.within j (omega arith)))
           (split_last k (length starts) (omega (arith, l, length-append starts (length steps ∷ []))));
@@ -193,14 +206,14 @@ module _ (q : Question) (steps : List Step) (assumed : List Fact) (starts : List
         earlier : (k : ℕ) → k < length starts → IsLevel b.terms (take (slice_index (starts ++ length steps ∷ []) k) b.steps) (facts ++ take k (assumed ++ f ∷ []))
         earlier k m =
             let n = slice_index starts k in
-            let s : take (slice_index (starts ++ length steps ∷ []) k) b.steps ≡ take n steps = ap (λ i. take i b.steps) (start_at k m) ∙ sym (take-take n (length steps) b.steps (kept.within k m)) ∙ ap (take n) front in
+            let s : take (slice_index (starts ++ length steps ∷ []) k) b.steps ≡ take n steps = ap (λ i. take i b.steps) (start_at k m) ∙ sym (take-take n (length steps) b.steps (kept.within k m)) ∙ ap (take n) (front f b x) in
             let a : take k (assumed ++ f ∷ []) ≡ take k assumed = take-append-le k assumed (f ∷ []) (omega (arith, kept.as_many)) in
             subst (λ t. IsLevel t (take (slice_index (starts ++ length steps ∷ []) k) b.steps) (facts ++ take k (assumed ++ f ∷ []))) (sym terms)
             (subst (λ z. IsLevel ts z (facts ++ take k (assumed ++ f ∷ []))) (sym s) (subst (λ z. IsLevel ts (take n steps) (facts ++ z)) (sym a) (kept.before k m)))
 
         last : (k : ℕ) → k ≡ length starts → IsLevel b.terms (take (slice_index (starts ++ length steps ∷ []) k) b.steps) (facts ++ take k (assumed ++ f ∷ []))
         last k m =
-            let s : take (slice_index (starts ++ length steps ∷ []) k) b.steps ≡ steps = ap (λ i. take (slice_index (starts ++ length steps ∷ []) i) b.steps) m ∙ ap (λ i. take i b.steps) last_start ∙ front in
+            let s : take (slice_index (starts ++ length steps ∷ []) k) b.steps ≡ steps = ap (λ i. take (slice_index (starts ++ length steps ∷ []) i) b.steps) m ∙ ap (λ i. take i b.steps) last_start ∙ front f b x in
             let a : take k (assumed ++ f ∷ []) ≡ assumed = ap (λ i. take i (assumed ++ f ∷ [])) (m ∙ kept.as_many) ∙ take-append_seam assumed (f ∷ []) in
             subst (λ t. IsLevel t (take (slice_index (starts ++ length steps ∷ []) k) b.steps) (facts ++ take k (assumed ++ f ∷ []))) (sym terms)
             (subst (λ z. IsLevel ts z (facts ++ take k (assumed ++ f ∷ []))) (sym s) (subst (λ z. IsLevel ts steps (facts ++ z)) (sym a) kept.whole))

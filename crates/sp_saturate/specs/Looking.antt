@@ -15,3 +15,11 @@ IsFirstIn p n o = MatchOption o ((j : ℕ) → j < n → p j ≡ false) (λ k. r
 -- the fact is one of these
 abbrev pub IsOn : (Fact → Bool) → Fact → Type 0
 IsOn h f = h f ≡ true
+
+-- one of the facts of a trail is a clash
+abbrev pub HasClashOn : Found → Type 0
+HasClashOn t = (f : Fact) × (on t.steps f ≡ true) × (is_clash t.terms f ≡ true)
+
+-- none of them is
+abbrev pub IsCalmOn : Found → Type 0
+IsCalmOn t = (f : Fact) → on t.steps f ≡ true → is_clash t.terms f ≡ false

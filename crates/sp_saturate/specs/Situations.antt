@@ -1,7 +1,7 @@
 -- What is given and what is assumed, and the facts that follow, as contracts see them.
-use Rattle.std.specs.Prelude.{◌≡◌, ℕ, ◌<◌, ◌≤◌, ◌↔◌, Bool, false, List, ◌++◌, All, IsTrue, length, take, slice_index, slice_index_or}
+use Rattle.std.specs.Prelude.{◌≡◌, ℕ, ◌<◌, ◌≤◌, ◌↔◌, Bool, false, List, [], ◌∷◌, ◌++◌, All, IsTrue, length, take, slice_index, slice_index_or}
 use Rattle.sp_rules.specs.Terms.{Terms, count}
-use Rattle.sp_rules.specs.Facts.{is_one_of}
+use Rattle.sp_rules.specs.Facts.{has_truth, is_one_of}
 use Rattle.sp_rules.specs.Follows.{Follows}
 use Rattle.sp_rules.specs.Laws.{IsClosed, AreIn}
 use Rattle.sp_rules.specs.Questions.{IsQuestion, Question, is_truth_below}
@@ -14,6 +14,10 @@ use Rattle.sp_saturate.specs.Steps.{on, given_on}
 pub record Situation : Type 0 where
   pub question : Question
   pub assumed : List Fact
+
+-- the same with one assumption more: that the atom of this index has this truth value
+abbrev pub assuming : Situation → ℕ → Bool → Situation
+assuming s a b = record s { assumed = s.assumed ++ has_truth (slice_index s.question.atoms a) b ∷ [] }
 
 -- the fact is given or assumed
 abbrev pub supposed : Situation → Fact → Bool

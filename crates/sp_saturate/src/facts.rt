@@ -1,21 +1,24 @@
 //! The closure of a formula's given facts, with assumptions that are made and taken back.
 #![tactic(auto, using(crate::proofs::Trails::extends_then, crate::proofs::Trails::extends_none))]
 
-ghost use Rattle.std.specs.Prelude.{◌≡◌, ℕ, ◌↔◌, ◌≤◌, ◌<◌, ◌++◌, ◌∷◌, ◌-◌, ◌*◌, ◌||◌, true, [], IfOk, IsTrue, length, take, slice_index, slice_index_or, vec_len, vec_capacity};
+ghost use Rattle.std.specs.Prelude.{◌≡◌, ℕ, ◌↔◌, ◌≤◌, ◌<◌, ◌++◌, ◌∷◌, ◌-◌, ◌*◌, ◌||◌, true, [], All, IfOk, IfSome, IsTrue, MatchOption, OnErr, length, take, slice_index, slice_index_or, vec_len, vec_capacity};
 ghost use Rattle.sp_rules.specs.Terms.{count};
 ghost use Rattle.sp_rules.specs.Table.{in_range};
+ghost use Rattle.sp_rules.specs.Branches.{HasClash};
 ghost use Rattle.sp_rules.specs.Clash.{IsFirstClash, is_clash};
 ghost use Rattle.sp_rules.specs.Facts.{has_truth, is_one_of};
-ghost use Rattle.sp_rules.specs.Laws.{IsClosed};
+ghost use Rattle.sp_rules.specs.Laws.{AreIn, IsClosed};
+ghost use Rattle.sp_rules.specs.Questions.{is_truth_below};
 ghost use Rattle.sp_rules.specs.declared.fact.Fact.{Fact};
 ghost use Rattle.sp_saturate.specs.Accepted.{AreAccepted, EndInClash};
-ghost use Rattle.sp_saturate.specs.Situations.{Situation, FollowAsMany, IsFollowing, supposed};
+ghost use Rattle.sp_saturate.specs.Looking.{HasClashOn, IsCalmOn};
+ghost use Rattle.sp_saturate.specs.Situations.{Situation, FollowAsMany, IsFollowing, assuming, supposed};
 ghost use Rattle.sp_saturate.specs.Steps.{on, given_on};
 ghost use Rattle.sp_saturate.specs.Trail.{Extends};
 
 use crate::behind::steps_behind;
 use crate::clashes::first_clash;
-use crate::follow::{follow, start, try_all};
+use crate::follow::{follow, follow_to_clash, start, try_all};
 use crate::fronts::{ends_in_clash, front};
 use crate::gaps::gap;
 use crate::parents::Parents;
@@ -59,6 +62,25 @@ fn close(trail: &mut Trail, parents: &Parents, from: u32)
     let mut next = from;
     'rounds: loop {
         follow(trail, parents, next);
+        next = trail.count();
+        let Some(step) = gap(trail) else {
+            return;
+        };
+        let _ = trail.try_step(&step);
+        trail.tell_few();
+    }
+}
+
+/// The same, but only until there is a clash.
+fn close_to_clash(trail: &mut Trail, parents: &Parents, from: u32)
+    ensures extends { Extends trail.old trail.new }
+    ensures closed { IsCalmOn trail.new → IsClosed trail.new.terms (on trail.new.steps) }
+{
+    let mut next = from;
+    'rounds: loop {
+        if follow_to_clash(trail, parents, next) {
+            return;
+        }
         next = trail.count();
         let Some(step) = gap(trail) else {
             return;
@@ -149,6 +171,33 @@ fn replayed(
     front(alloc, &trail)
 }
 
+/// Steps of a trail that lack nothing, and end in a clash where it has one. Those that the clash doesn't rest on are left
+/// out as far as a guess tells.
+fn steps_to_clash(
+    alloc: Global,
+    trail: &Trail,
+    given: &[Fact],
+    assumed: &[Fact],
+) -> Result<Vec<Step>, Memory>
+    requires given { All (λ f. IsTrue (is_truth_below (count trail.now.terms) f)) given.now }
+    requires assumed { All (λ f. IsTrue (is_truth_below (count trail.now.terms) f)) assumed.now }
+    requires two { 2 ≤ count trail.now.terms }
+    requires from { AreIn (given_on trail.now.steps) (is_one_of (given.now ++ assumed.now)) }
+    ensures accepted { IfOk result (λ v. AreAccepted trail.now.terms (is_one_of (given.now ++ assumed.now)) v.items) }
+    ensures few { IfOk result (λ v. length v.items ≤ 2 * (count trail.now.terms * count trail.now.terms)) }
+    ensures ends { IfOk result (λ v. HasClashOn trail.now → EndInClash trail.now.terms v.items) }
+{
+    trail.tell_few();
+    let terms = trail.terms();
+    let whole = front(alloc, trail)?;
+    let behind = steps_behind(alloc, terms, given, assumed, &whole)?;
+    let pruned = replayed(alloc, terms, given, assumed, &behind)?;
+    if ends_in_clash(terms, &pruned) {
+        return Ok(pruned);
+    }
+    Ok(whole)
+}
+
 impl<'a> Facts<'a> {
     /// The facts that follow from the given ones. It takes all the room that assumptions want.
     ///
@@ -214,6 +263,42 @@ impl<'a> Facts<'a> {
         push_start(&mut self.starts, start);
     }
 
+    /// Assumes besides that the atom of this index has this truth value, if no clash follows then. Else it hands out steps
+    /// to a clash, as `steps` does, and leaves the facts as they were: they are followed no further than to a clash.
+    ///
+    /// # Errors
+    /// `Memory` where the steps can't be stored; the facts are as they were then.
+    pub fn refute(
+        &mut self,
+        alloc: Global,
+        atom: u16,
+        truth: bool,
+    ) -> Result<Option<Vec<Step>>, Memory>
+        requires atom { atom < length self.old.question.atoms }
+        requires few { length self.old.assumed < 20 }
+        ensures clash { IfOk result (λ o. MatchOption o (HasClash self.old.question.terms (supposed (assuming self.old atom truth)) → ⊥) (λ steps. HasClash self.old.question.terms (supposed (assuming self.old atom truth)))) }
+        ensures accepted { IfOk result (λ o. IfSome o (λ steps. AreAccepted self.old.question.terms (supposed (assuming self.old atom truth)) steps.items)) }
+        ensures few { IfOk result (λ o. IfSome o (λ steps. length steps.items ≤ 2 * (count self.old.question.terms * count self.old.question.terms))) }
+        ensures ends { IfOk result (λ o. IfSome o (λ steps. EndInClash self.old.question.terms steps.items)) }
+        ensures assumed { IfOk result (λ o. MatchOption o (self.new ≡ assuming self.old atom truth) (λ steps. self.new ≡ self.old)) }
+        ensures undone { OnErr result (self.new ≡ self.old) }
+    {
+        let fact = truth_fact(atom_at(self.atoms, atom), truth);
+        let before = self.trail.count();
+        self.trail.give(fact);
+        close_to_clash(&mut self.trail, &self.parents, before);
+        push_fact(&mut self.assumed, fact);
+        self.trail.tell_found();
+        if first_clash(&self.trail).is_none() {
+            push_start(&mut self.starts, before);
+            return Ok(None);
+        }
+        let steps = steps_to_clash(alloc, &self.trail, self.given, &self.assumed);
+        self.trail.release(before);
+        self.assumed.truncate(self.starts.len());
+        Ok(Some(steps?))
+    }
+
     /// Takes the last assumption back.
     pub fn back(&mut self)
         requires { 0 < length self.old.assumed }
@@ -236,16 +321,7 @@ impl<'a> Facts<'a> {
         ensures few { IfOk result (λ v. length v.items ≤ 2 * (count self.now.question.terms * count self.now.question.terms)) }
         ensures ends { IfOk result (λ v. (f : Fact) → IsFollowing self.now f → is_clash self.now.question.terms f ≡ true → EndInClash self.now.question.terms v.items) }
     {
-        self.trail.tell_few();
-        let terms = self.trail.terms();
-        let assumed = self.assumed.as_slice();
-        let whole = front(alloc, &self.trail)?;
-        let behind = steps_behind(alloc, terms, self.given, assumed, &whole)?;
-        let pruned = replayed(alloc, terms, self.given, assumed, &behind)?;
-        if ends_in_clash(terms, &pruned) {
-            return Ok(pruned);
-        }
-        Ok(whole)
+        steps_to_clash(alloc, &self.trail, self.given, &self.assumed)
     }
 
     /// The first clash among the facts that follow, equalities before the order, then by their numbers.

@@ -1,13 +1,14 @@
 //! What follows from a new fact. It may forget some of it: the round over all rules finds that.
 #![tactic(auto, using(crate::proofs::Trails::extends_then, crate::proofs::Trails::extends_none))]
 
-ghost use Rattle.std.specs.Prelude.{◌≤◌, ◌<◌};
+ghost use Rattle.std.specs.Prelude.{◌≤◌, ◌<◌, IsTrue};
+ghost use Rattle.sp_saturate.specs.Looking.{HasClashOn};
 ghost use Rattle.sp_saturate.specs.Trail.{Extends};
 
 use crate::parents::Parents;
 use crate::trail::Trail;
 use sp_pool::Head;
-use sp_rules::{Fact, Step};
+use sp_rules::{Fact, Step, clashes};
 use sp_values::{Op, Value};
 
 /// The step to an equality by this rule, through p.
@@ -304,6 +305,38 @@ pub fn follow(trail: &mut Trail, parents: &Parents, from: u32)
         let fact = trail.fact(k);
         follow_fact(trail, parents, fact);
     }
+}
+
+/// Whether one of the steps from the given one on is a clash.
+fn has_clash(trail: &Trail, from: u32) -> bool
+    ensures { IsTrue result → HasClashOn trail.now }
+{
+    for k in from..trail.count() {
+        if clashes(trail.terms(), trail.fact(k)) {
+            return true;
+        }
+    }
+    false
+}
+
+/// Follows up the steps from the given one on until one is a clash, or to the last. Whether it came to a clash.
+pub fn follow_to_clash(trail: &mut Trail, parents: &Parents, from: u32) -> bool
+    ensures extends { Extends trail.old trail.new }
+    ensures clash { IsTrue result → HasClashOn trail.new }
+{
+    let mut calm = from;
+    for k in from..u32::MAX {
+        if has_clash(trail, calm) {
+            return true;
+        }
+        calm = trail.count();
+        if k >= calm {
+            return false;
+        }
+        let fact = trail.fact(k);
+        follow_fact(trail, parents, fact);
+    }
+    false
 }
 
 /// Tries the order of the constant of a level and term j.

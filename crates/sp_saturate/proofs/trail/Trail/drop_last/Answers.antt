@@ -1,6 +1,5 @@
 use Rattle.std.proofs.Common.{◌≡◌, ◌-◌, ◌<◌, List, length, take, map, true, sym, ap, ◌∙◌, subst, arith}
 use Rattle.std.proofs.lemmas.List.{take-map, length-map}
-use Rattle.sp_rules.specs.Terms.{count}
 use Rattle.sp_rules.specs.Facts.{holds_in}
 use Rattle.sp_rules.specs.declared.fact.Step.{Step}
 use Rattle.sp_pool.specs.Records.{Records}

@@ -1,4 +1,4 @@
-use Rattle.std.proofs.Common.{◌-◌, map, sym, subst}
+use Rattle.std.proofs.Common.{map, sym, subst}
 use Rattle.sp_saturate.specs.Steps.{step_of, IsFound}
 use Rattle.sp_saturate.specs.Trail.{IsTrail}
 use Rattle.sp_saturate.proofs.Trails.{has_room, trail_more}

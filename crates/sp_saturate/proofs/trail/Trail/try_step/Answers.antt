@@ -3,7 +3,7 @@ use Rattle.sp_rules.specs.Table.{lack_of}
 use Rattle.sp_rules.specs.declared.fact.Lack.{Lack}
 use Rattle.sp_rules.proofs.Steps.{ready, no_lack}
 use Rattle.sp_saturate.specs.Steps.{on}
-use Rattle.sp_saturate.specs.Trail.{Extends, is_new}
+use Rattle.sp_saturate.specs.Trail.{Extends}
 use Rattle.sp_saturate.proofs.Trails.{extends_one}
 use Rattle.sp_saturate.proofs.trail.Trail.try_step.Goals as goal
 use Rattle.sp_rules.proofs.FactLemmas.{both_hold}

@@ -9,6 +9,7 @@ use Rattle.sp_instance.specs.Tables.{param_broken, param_table, table_head}
 use Rattle.sp_instance.specs.Instances.{front_broken, instance_broken, instance_of, members_in, tables_broken, tables_named, words_in}
 use Rattle.sp_instance.proofs.Judged.{behind_nothing, nothing, refused}
 use Rattle.sp_instance.proofs.Made.{few, made, members_few}
+use Rattle.sp_instance.proofs.Seen.{both_none}
 use Rattle.sp_instance.proofs.instance.finish.Goals as goal
 
 pub new-requires : goal.new-requires
@@ -34,7 +35,8 @@ assemble-requires c =
     let w = c.in_ok-words.ensures ∙ ap (words_of p) m in
     let back = c.in_ok-made.ensures.found ∙ (λ i. first (flat_map (param_broken (w i) (c.items-texts.ensures i)) (c.params-declared.ensures.value i))) in
     let told : c.earlier-first.result ≡ first (tables_broken p t) = c.earlier-first.ensures (tables_named p t) (flat_map (param_broken (words_in p t) t.tables) p.params) c.requires.named back in
-    let same = c.in_ok-made.ensures.made ∙ (λ i. map (param_table (w i) (c.items-texts.ensures i)) (c.params-declared.ensures.value i)) in
+    let each = both_none (tables_named p t) (flat_map (param_broken (words_in p t) t.tables) p.params) _ _ _ c.requires.named back told c.in-None.is in
+    let same = c.in_ok-made.ensures.made each.1 ∙ (λ i. map (param_table (w i) (c.items-texts.ensures i)) (c.params-declared.ensures.value i)) in
     let none : instance_broken p t ≡ [] = behind_nothing (front_broken p t) (tables_broken p t) c.requires.front ∙ nothing (tables_broken p t) (sym told ∙ c.in-None.is) in
     subst (IsInstanceOf p) (sym (λ i. record { members = c.requires.members i; tables = same i })) (made p c.params-declared.ensures.well_formed t none)
 
@@ -46,7 +48,8 @@ returns-in-None c =
     let w = c.in_ok-words.ensures ∙ ap (words_of p) m in
     let back = c.in_ok-made.ensures.found ∙ (λ i. first (flat_map (param_broken (w i) (c.items-texts.ensures i)) (c.params-declared.ensures.value i))) in
     let told : c.earlier-first.result ≡ first (tables_broken p t) = c.earlier-first.ensures (tables_named p t) (flat_map (param_broken (words_in p t) t.tables) p.params) c.requires.named back in
-    let same = c.in_ok-made.ensures.made ∙ (λ i. map (param_table (w i) (c.items-texts.ensures i)) (c.params-declared.ensures.value i)) in
+    let each = both_none (tables_named p t) (flat_map (param_broken (words_in p t) t.tables) p.params) _ _ _ c.requires.named back told c.in-None.is in
+    let same = c.in_ok-made.ensures.made each.1 ∙ (λ i. map (param_table (w i) (c.items-texts.ensures i)) (c.params-declared.ensures.value i)) in
     let none : instance_broken p t ≡ [] = behind_nothing (front_broken p t) (tables_broken p t) c.requires.front ∙ nothing (tables_broken p t) (sym told ∙ c.in-None.is) in
     let is = c.assemble.ensures ∙ (λ i. record { members = c.requires.members i; tables = same i }) in
     record {

@@ -1,6 +1,6 @@
 -- Where the tree of a script's text breaks nothing, each call stands for an invocation of the machine.
-use Rattle.std.proofs.Common.{◌≡◌, refl, sym, ◌∙◌, ap, subst, arith, ℕ, ◌<◌, ◌≤◌, List, [], ◌∷◌, ◌++◌, Bool, true, false, Option, Some, None, length}
-use Rattle.std.specs.Prelude.{IsTrue, map, slice_get, if◌then◌else◌}
+use Rattle.std.proofs.Common.{◌≡◌, refl, sym, ◌∙◌, ap, arith, ℕ, ◌<◌, List, [], Bool, true, false, Option, Some, None, length}
+use Rattle.std.specs.Prelude.{map, slice_get, if◌then◌else◌}
 use Rattle.std.specs.List.{All, flat_map}
 use Rattle.sp_text.specs.declared.fault.Rule.TheVariants as rule
 use Rattle.sp_text.specs.declared.fault.Span.{Span}
@@ -15,7 +15,7 @@ use Rattle.sp_core.specs.Machine.{IsInvocation, types_of}
 use Rattle.sp_core.specs.Parts.{Parts}
 use Rattle.sp_core.specs.WellFormed.{IsWellFormed, names_of}
 use Rattle.sp_instance.specs.Words.{Words, words_of}
-use Rattle.sp_instance.specs.Meanings.{IsFit, arguments_broken}
+use Rattle.sp_instance.specs.Meanings.{arguments_broken}
 use Rattle.sp_instance.proofs.Typed.{arguments_proper, place_below}
 use Rattle.sp_instance.specs.Scripts.{CallText, call_broken, called, called_as, called_broken, count_broken, function_broken, function_name, given, hidden_broken, invocation_of, invocations_of, script_broken, there_broken}
 use Rattle.sp_instance.proofs.Lists.{all_map, each_none, left_none, length_map, right_none, short}

@@ -1,5 +1,5 @@
 -- What an answer is by the first of what is broken.
-use Rattle.std.proofs.Common.{◌≡◌, refl, sym, ◌∙◌, ap, subst, List, [], ◌∷◌, Option, Some, None}
+use Rattle.std.proofs.Common.{◌≡◌, sym, ap, subst, List, [], ◌∷◌, Some, None}
 use Rattle.sp_text.specs.declared.fault.Span.{Span}
 use Rattle.sp_text.specs.declared.fault.TextFault.{TextFault}
 use Rattle.sp_text.specs.declared.violation.Requirement.{Requirement}

@@ -1,22 +1,20 @@
 -- Where the tree of an instance's text breaks nothing, what it stands for is an instance of the specification.
-use Rattle.std.proofs.Common.{◌≡◌, refl, sym, ◌∙◌, ap, subst, arith, rules, ℕ, zero, suc, ◌+◌, ◌<◌, ◌≤◌, List, [], ◌∷◌, ◌++◌, Bool, true, false, Option, Some, None, length}
-use Rattle.std.specs.Prelude.{IsTrue, is_some, map, nat_lt, slice_get, slice_index_or, if◌then◌else◌}
-use Rattle.std.specs.List.{All, flat_map, list_any}
+use Rattle.std.proofs.Common.{◌≡◌, refl, sym, ◌∙◌, ap, subst, arith, rules, ℕ, ◌<◌, ◌≤◌, List, [], ◌++◌, Bool, true, false, Option, Some, None, length}
+use Rattle.std.specs.Prelude.{IsTrue, is_some, map, nat_lt, slice_get, if◌then◌else◌}
+use Rattle.std.specs.List.{All, flat_map}
 use Rattle.std.specs.Str.{bytes_eq}
 use Rattle.sp_text.specs.declared.fault.Quantity.TheVariants as quantity
 use Rattle.sp_text.specs.declared.fault.Rule.TheVariants as rule
 use Rattle.sp_text.specs.declared.fault.Span.{Span}
-use Rattle.sp_text.specs.declared.violation.Violation.{Violation}
 use Rattle.sp_text.specs.Violations.{breaks}
 use Rattle.sp_values.specs.Domains.{Sizes, are_values, is_value}
-use Rattle.sp_values.specs.declared.value.Value.{Value}
 use Rattle.sp_tree.specs.declared.instance.InstanceTree.{InstanceTree}
 use Rattle.sp_tree.specs.declared.instance.TableTree.{TableTree}
 use Rattle.sp_tree.specs.declared.names.Ident.{Ident}
 use Rattle.sp_naming.specs.Names.{is_among, repeated_names}
 use Rattle.sp_core.specs.declared.function.Param.{Param}
 use Rattle.sp_core.specs.declared.function.TypeInfo.{TypeInfo}
-use Rattle.sp_core.specs.Instances.{IsInstance, IsInstanceOf, IsTable, TableParts, filling_of, sizes_of}
+use Rattle.sp_core.specs.Instances.{IsInstanceOf, IsTable, TableParts, filling_of, sizes_of}
 use Rattle.sp_core.specs.Machine.{types_of}
 use Rattle.sp_core.specs.Parts.{Parts}
 use Rattle.sp_core.specs.WellFormed.{AreDifferent, IsWellFormed, members_of}

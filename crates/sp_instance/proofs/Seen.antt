@@ -1,7 +1,7 @@
 -- Rows whose arguments earlier rows have, row by row; sets of arguments; items found by an index of their names.
-use Rattle.std.proofs.Common.{◌≡◌, refl, sym, ◌∙◌, ap, ℕ, suc, ◌+◌, List, [], ◌∷◌, ◌++◌, Bool, true, false, Option, Some, None, append_assoc, arith, cond, true≢false}
+use Rattle.std.proofs.Common.{◌≡◌, refl, sym, ◌∙◌, ap, ℕ, List, [], ◌∷◌, ◌++◌, Bool, true, false, Option, Some, None, append_assoc, arith, cond, true≢false}
 use Rattle.std.specs.Prelude.{is_some, map, slice_get, ◌||◌}
-use Rattle.std.specs.List.{find, list_any, position_from}
+use Rattle.std.specs.List.{list_any, position_from}
 use Rattle.std.specs.Map.{lookup}
 use Rattle.std.specs.Str.{bytes_eq}
 use Rattle.std.proofs.lemmas.List.{append-nil}

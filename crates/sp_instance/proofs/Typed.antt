@@ -1,6 +1,6 @@
 -- What a text that breaks nothing stands for is a value of the type that is asked, and a proper one where only these are asked. For
 -- all that makes values of texts.
-use Rattle.std.proofs.Common.{◌≡◌, refl, sym, ◌∙◌, ap, subst, arith, rules, ℕ, zero, suc, ◌+◌, ◌<◌, List, [], ◌∷◌, ◌++◌, Bool, true, false, Option, Some, None, length, cond}
+use Rattle.std.proofs.Common.{◌≡◌, refl, sym, ◌∙◌, ap, arith, rules, ℕ, suc, ◌+◌, ◌<◌, List, [], ◌∷◌, ◌++◌, Bool, true, false, Option, Some, None, length, cond}
 use Rattle.std.specs.Prelude.{IsTrue, Result, Ok, Err, slice_get, slice_index_or, nat_lt, ◌&&◌, ◌||◌, ◌==◌, ℤ, if◌then◌else◌}
 use Rattle.std.specs.List.{position_from}
 use Rattle.std.specs.Str.{bytes_eq}

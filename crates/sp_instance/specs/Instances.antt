@@ -1,5 +1,5 @@
 -- What the tree of an instance's text breaks, as one list, and the instance that it stands for.
-use Rattle.std.specs.Prelude.{ℕ, List, [], ◌++◌, map}
+use Rattle.std.specs.Prelude.{ℕ, List, ◌++◌, map}
 use Rattle.std.specs.List.{flat_map}
 use Rattle.sp_text.specs.declared.violation.Violation.{Violation}
 use Rattle.sp_text.specs.Firsts.{behind}

@@ -1,12 +1,12 @@
-use Rattle.std.proofs.Common.{◌≡◌, ◌≤◌, sym, ◌∙◌, ap, subst, List, [], length}
-use Rattle.std.specs.Prelude.{map, Some}
+use Rattle.std.proofs.Common.{◌≡◌, ◌≤◌, sym, ◌∙◌, ap, subst, [], length}
+use Rattle.std.specs.Prelude.{map}
 use Rattle.std.specs.List.{All, flat_map}
 use Rattle.sp_text.specs.Violations.{first}
 use Rattle.sp_core.specs.Instances.{IsInstanceOf}
 use Rattle.sp_instance.specs.Words.{AreFew, words_of}
 use Rattle.sp_instance.specs.Heads.{names_in}
 use Rattle.sp_instance.specs.Tables.{param_broken, param_table, table_head}
-use Rattle.sp_instance.specs.Instances.{front_broken, instance_broken, instance_of, members_in, tables_broken, tables_named, words_in}
+use Rattle.sp_instance.specs.Instances.{front_broken, instance_broken, members_in, tables_broken, tables_named, words_in}
 use Rattle.sp_instance.proofs.Judged.{behind_nothing, nothing, refused}
 use Rattle.sp_instance.proofs.Made.{few, made, members_few}
 use Rattle.sp_instance.proofs.Seen.{both_none}

@@ -1,4 +1,4 @@
-use Rattle.std.proofs.Common.{◌≡◌, ◌<◌, sym, ◌∙◌, ap, arith, [], length}
+use Rattle.std.proofs.Common.{◌≡◌, ◌<◌, ◌∙◌, ap, arith, [], length}
 use Rattle.std.proofs.lemmas.List.{take_all}
 use Rattle.sp_instance.proofs.Lists.{copied_as, length_map}
 use Rattle.sp_instance.proofs.members.members_of.Goals as goal

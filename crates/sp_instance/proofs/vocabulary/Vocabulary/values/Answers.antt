@@ -1,7 +1,7 @@
 use Rattle.std.proofs.Common.{◌<◌, sym, ◌∙◌, ap, subst, ◌++◌, ◌∷◌, [], take, length}
 use Rattle.sp_text.specs.Violations.{first}
 use Rattle.sp_core.specs.Machine.{types_of}
-use Rattle.sp_instance.specs.Meanings.{value_broken, value_in, values_broken, values_in}
+use Rattle.sp_instance.specs.Meanings.{value_broken, values_broken}
 use Rattle.sp_instance.proofs.Texts.{next_broken, next_made, room}
 use Rattle.sp_instance.proofs.vocabulary.Vocabulary.values.Goals as goal
 

@@ -15,7 +15,7 @@ returns-in_ok-note-in-None-clause-repeated c before h =
     let made = c.arguments-args.ensures.made ∙ (λ i. arguments_in w false (types_of (c.items.ensures i)) (c.items-2.ensures i)) in
     let found = c.arguments-args.ensures.found ∙ (λ i. first (arguments_broken w false c.args.name (types_of (c.items.ensures i)) (c.items-2.ensures i))) in
     let key : Some c.arguments-args.result.0 ≡ row_key w q c.args.name r =
-        ap Some made ∙ fine_some (arguments_broken w false c.args.name (types_of q.formals) r.0) (arguments_in w false (types_of q.formals) r.0) (sym found ∙ c.in-None.is) in
+    ap Some made ∙ fine_some (arguments_broken w false c.args.name (types_of q.formals) r.0) (arguments_in w false (types_of q.formals) r.0) (sym found ∙ c.in-None.is) in
     let noted = c.in_ok-note-in-None.ensures.repeated before h in
     (noted.0 ∙ (λ i. first (repeat_broken before (key i) (c.row_span.ensures i))), λ a. noted.1 a ∙ ap (λ o. is_one_of (with_key before o) a) key)
 
@@ -26,7 +26,7 @@ returns-in-Some-clause-repeated c before h =
     let r = c.args.text.now in
     let found = c.arguments-args.ensures.found ∙ (λ i. first (arguments_broken w false c.args.name (types_of (c.items.ensures i)) (c.items-2.ensures i))) in
     let key : None ≡ row_key w q c.args.name r =
-        fine_none (arguments_broken w false c.args.name (types_of q.formals) r.0) (arguments_in w false (types_of q.formals) r.0) _ (sym found ∙ c.in-Some.is) in
+    fine_none (arguments_broken w false c.args.name (types_of q.formals) r.0) (arguments_in w false (types_of q.formals) r.0) _ (sym found ∙ c.in-Some.is) in
     (ap (λ o. first (repeat_broken before o (row_span r))) key, λ a. h a ∙ ap (λ o. is_one_of (with_key before o) a) key)
 
 pub returns-in-Some-clause-made : goal.returns-in-Some-clause-made

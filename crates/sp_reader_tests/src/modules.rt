@@ -1,9 +1,7 @@
-ghost use Rattle.std.specs.Prelude.{◌≤◌, length};
-
-use sp_lexer::lex;
+use crate::texts::{is, span, tokens};
 use sp_parser::parse_module;
-use sp_text::{Span, TextFault};
-use sp_tree::{Body, EffectTree, FunDecl, Module, TypeTree};
+use sp_text::TextFault;
+use sp_tree::{Body, EffectTree, FormalTree, FunDecl, Module, TypeTree};
 use std::alloc::Global;
 use std::test::Fail;
 
@@ -22,14 +20,22 @@ OVFUN get(user u) -> INTEGER r; EFFECTS r = data(red);
 END_MODULE";
 
 /// The module that the text is.
-fn read(alloc: Global, text: &[u8]) -> Result<Module, TextFault>
-    requires { length text.now ≤ 4096 }
-{
-    let tokens = lex(alloc, text)?;
+fn read(alloc: Global, text: &[u8]) -> Result<Module, TextFault> {
+    let tokens = tokens(alloc, text)?;
     parse_module(alloc, tokens.as_slice(), text.len() as u32)
 }
 
-/// How many effects the function has, if it has a list of them.
+// Whether the module of every form is read so.
+fn has_sections(module: &Module) -> bool {
+    is(&module.name, b"files")
+        && module.types.items().len() == 2
+        && module.parameters.items().len() == 2
+        && module.definitions.items().len() == 1
+        && module.externals.items().len() == 2
+        && module.assertions.items().len() == 2
+}
+
+// The effects of a function, if it has a list of them.
 fn effects(function: &FunDecl) -> Option<&[EffectTree]> {
     match &function.body {
         Body::Effects(effects) => Some(effects.items()),
@@ -37,72 +43,86 @@ fn effects(function: &FunDecl) -> Option<&[EffectTree]> {
     }
 }
 
-#[test]
-fn every_form_stands_in_its_place(rt: HostRuntime) -> Result<(), Fail> {
-    let module = read(rt.alloc(), EVERY_FORM)?;
-    assert_eq!(rt; module.name.name.bytes(), b"files".as_slice());
-    assert_eq!(rt; module.types.items().len(), 2);
-    assert_eq!(rt; module.parameters.items().len(), 2);
-    assert_eq!(rt; module.definitions.items().len(), 1);
-    assert_eq!(rt; module.externals.items().len(), 2);
-    assert_eq!(rt; module.assertions.items().len(), 2);
-    assert_eq!(rt; module.functions.items().len(), 4);
-    Ok(())
+// Whether a function has so many effects.
+fn has_effects(function: &FunDecl, count: usize) -> bool {
+    match effects(function) {
+        Some(effects) => effects.len() == count,
+        None => false,
+    }
+}
+
+fn has_functions(functions: &[FunDecl]) -> bool {
+    let [data, sum, set, get] = functions else {
+        return false;
+    };
+    data.hidden && is_sum(sum) && has_operations(set, get)
+}
+
+fn is_sum(sum: &FunDecl) -> bool {
+    !sum.hidden && sum.exceptions.items().len() == 2 && matches!(sum.body, Body::Derivation(_))
+}
+
+fn has_operations(set: &FunDecl, get: &FunDecl) -> bool {
+    has_effects(set, 3) && set.head.ty.is_none() && get.head.result.is_some() && has_effects(get, 1)
 }
 
 #[test]
-fn a_function_has_its_parts(rt: HostRuntime) -> Result<(), Fail> {
+fn every_form_stands_in_its_place(rt: HostRuntime) -> Result<(), Fail> {
     let module = read(rt.alloc(), EVERY_FORM)?;
-    let [data, sum, set, get] = module.functions.items() else {
-        assert!(rt; false);
-        return Ok(());
-    };
-    assert!(rt; data.hidden && !sum.hidden);
-    assert_eq!(rt; sum.exceptions.items().len(), 2);
-    assert!(rt; matches!(sum.body, Body::Derivation(_)));
-    assert_eq!(rt; effects(set).map(|list| list.len()), Some(3));
-    assert!(rt; set.head.ty.is_none() && get.head.result.is_some());
-    assert_eq!(rt; effects(get).map(|list| list.len()), Some(1));
+    assert!(rt; has_sections(&module));
+    assert!(rt; has_functions(module.functions.items()));
     Ok(())
 }
 
 const NESTED_EFFECTS: &[u8] = b"MODULE m FUNCTIONS OFUN f(user u; INTEGER i); EFFECTS \
     IF a THEN FORALL LEVEL l: END_FORALL; ELSE END_IF; END_MODULE";
 
-/// The span of a type.
-fn span(ty: &TypeTree) -> Span {
+// Whether the type spans from one place to the other.
+fn spans(ty: &TypeTree, start: u32, end: u32) -> bool {
     match ty {
-        TypeTree::Boolean(span) | TypeTree::Integer(span) | TypeTree::Level(span) => *span,
-        TypeTree::Named(name) => name.span,
+        TypeTree::Boolean(at) | TypeTree::Integer(at) | TypeTree::Level(at) => {
+            *at == span(start, end)
+        }
+        TypeTree::Named(name) => name.span == span(start, end),
     }
+}
+
+// Whether the formals of that function span so.
+fn has_formals(formals: &[FormalTree]) -> bool {
+    let [user, number] = formals else {
+        return false;
+    };
+    spans(&user.ty, 26, 30) && spans(&number.ty, 34, 41)
+}
+
+// Whether its effects span so.
+fn has_nested(function: &FunDecl) -> bool {
+    let Some([EffectTree::If(keyword, _, yes, _)]) = effects(function) else {
+        return false;
+    };
+    *keyword == span(54, 56) && has_loop(yes.as_slice())
+}
+
+fn has_loop(effects: &[EffectTree]) -> bool {
+    let [EffectTree::Forall(keyword, variables, _)] = effects else {
+        return false;
+    };
+    let Some(variable) = variables.items().first() else {
+        return false;
+    };
+    *keyword == span(64, 70) && spans(&variable.ty, 71, 76)
+}
+
+fn has_spans(functions: &[FunDecl]) -> bool {
+    let [function] = functions else {
+        return false;
+    };
+    has_formals(function.head.formals.items()) && has_nested(function)
 }
 
 #[test]
 fn keywords_and_types_span_their_token(rt: HostRuntime) -> Result<(), Fail> {
     let module = read(rt.alloc(), NESTED_EFFECTS)?;
-    let [function] = module.functions.items() else {
-        assert!(rt; false);
-        return Ok(());
-    };
-    let [user, number] = function.head.formals.items() else {
-        assert!(rt; false);
-        return Ok(());
-    };
-    assert_eq!(rt; span(&user.ty), Span { start: 26, end: 30 });
-    assert_eq!(rt; span(&number.ty), Span { start: 34, end: 41 });
-    let Some([EffectTree::If(keyword, _, yes, _)]) = effects(function) else {
-        assert!(rt; false);
-        return Ok(());
-    };
-    assert_eq!(rt; *keyword, Span { start: 54, end: 56 });
-    let [EffectTree::Forall(keyword, variables, _)] = yes.as_slice() else {
-        assert!(rt; false);
-        return Ok(());
-    };
-    assert_eq!(rt; *keyword, Span { start: 64, end: 70 });
-    assert_eq!(rt;
-        variables.items().first().map(|v| span(&v.ty)),
-        Some(Span { start: 71, end: 76 })
-    );
+    assert!(rt; has_spans(module.functions.items()));
     Ok(())
 }

@@ -1,6 +1,6 @@
 //! Worked texts of two machines, one of which implements the other.
 
-use crate::texts::{Sort, outcome, reads_whole_alone};
+use crate::texts::{Sort, reads_whole_alone, show_read};
 
 pub const FILES: &[u8] = b"MODULE files
 TYPES user: DESIGNATOR; file: DESIGNATOR;
@@ -70,60 +70,40 @@ PARAMETERS clr(u) IS clr(u); cls(f) IS scls(f); FUNCTIONS data(f) IS cell(f, 0);
 
 #[test]
 fn worked_modules_read_and_no_shorter_text(rt: HostRuntime) {
-    assert_eq!(rt;
-        reads_whole_alone(rt.alloc(), Sort::Module, FILES),
-        Ok(true)
-    );
-    assert_eq!(rt;
-        reads_whole_alone(rt.alloc(), Sort::Module, LEAKY),
-        Ok(true)
-    );
-    assert_eq!(rt;
-        reads_whole_alone(rt.alloc(), Sort::Module, STORE),
-        Ok(true)
-    );
+    for text in &[FILES, LEAKY, STORE] {
+        assert!(rt; reads_whole_alone(rt.alloc(), Sort::Module, text));
+    }
 }
 
 #[test]
 fn worked_interfaces_read_and_no_shorter_text(rt: HostRuntime) {
-    assert_eq!(rt;
-        reads_whole_alone(rt.alloc(), Sort::Interface, FILES_INTERFACE),
-        Ok(true)
-    );
-    assert_eq!(rt;
-        reads_whole_alone(rt.alloc(), Sort::Interface, LEAKY_INTERFACE),
-        Ok(true)
-    );
-    assert_eq!(rt;
-        reads_whole_alone(rt.alloc(), Sort::Interface, STORE_INTERFACE),
-        Ok(true)
-    );
-    assert_eq!(rt;
-        reads_whole_alone(rt.alloc(), Sort::Interface, PRODUCT_INTERFACE),
-        Ok(true)
-    );
+    for text in &[
+        FILES_INTERFACE,
+        LEAKY_INTERFACE,
+        STORE_INTERFACE,
+        PRODUCT_INTERFACE,
+    ] {
+        assert!(rt; reads_whole_alone(rt.alloc(), Sort::Interface, text));
+    }
 }
 
 #[test]
 fn worked_hierarchies_and_mappings_read_and_no_shorter_text(rt: HostRuntime) {
-    assert_eq!(rt;
-        reads_whole_alone(rt.alloc(), Sort::Hierarchy, SYSTEM),
-        Ok(true)
-    );
-    assert_eq!(rt;
-        reads_whole_alone(rt.alloc(), Sort::Mapping, DOWN),
-        Ok(true)
-    );
+    assert!(rt; reads_whole_alone(rt.alloc(), Sort::Hierarchy, SYSTEM));
+    assert!(rt; reads_whole_alone(rt.alloc(), Sort::Mapping, DOWN));
 }
+
+/// Interfaces without a section that may be absent.
+const SHORT_INTERFACES: [&[u8]; 2] = [
+    b"INTERFACE i MODULES m; LATTICE l; SAMPLE s; END_INTERFACE",
+    b"INTERFACE i MODULES m; CHAIN l; SAMPLE s; END_INTERFACE",
+];
 
 #[test]
 fn sections_that_may_be_absent(rt: HostRuntime) {
-    let bare = b"MAPPING m FROM a TO b END_MAPPING";
-    assert_eq!(rt; outcome(rt.alloc(), Sort::Mapping, bare), Ok(()));
-    let empty = b"HIERARCHY h END_HIERARCHY";
-    assert_eq!(rt; outcome(rt.alloc(), Sort::Hierarchy, empty), Ok(()));
-    let flat = b"INTERFACE i MODULES m; LATTICE l; SAMPLE s; END_INTERFACE";
-    assert_eq!(rt; outcome(rt.alloc(), Sort::Interface, flat), Ok(()));
-    let chain = b"INTERFACE i MODULES m; CHAIN l; SAMPLE s; END_INTERFACE";
-    assert_eq!(rt; outcome(rt.alloc(), Sort::Interface, chain), Ok(()));
+    let bare: &[u8] = b"MAPPING m FROM a TO b END_MAPPING";
+    show_read(&rt, rt.alloc(), Sort::Mapping, &[bare]);
+    let empty: &[u8] = b"HIERARCHY h END_HIERARCHY";
+    show_read(&rt, rt.alloc(), Sort::Hierarchy, &[empty]);
+    show_read(&rt, rt.alloc(), Sort::Interface, &SHORT_INTERFACES);
 }

@@ -1,5 +1,5 @@
 -- The second pass: what definitions, assertions and functions break, in all modules.
-use Rattle.std.specs.Prelude.{ℕ, List, [], ◌∷◌, ◌++◌, length, Option, None, Some, slice_get}
+use Rattle.std.specs.Prelude.{ℕ, List, [], ◌∷◌, ◌++◌, length, Option, None, Some}
 use Rattle.sp_text.specs.declared.fault.Quantity.TheVariants as quantity
 use Rattle.sp_text.specs.declared.limits.TheConstants.{MOST_ASSERTIONS}
 use Rattle.sp_text.specs.declared.violation.FileViolation.{FileViolation}

@@ -1,5 +1,5 @@
 -- One function of a text: what it breaks by itself, apart from its header and its level, and the core function that it stands for.
-use Rattle.std.specs.Prelude.{◌≡◌, ℕ, ◌+◌, ◌<◌, Bool, not, List, [], ◌++◌, length, map, sum_by, Option, None, Some, unwrap_or, slice_get, if◌then◌else◌, nat_lt}
+use Rattle.std.specs.Prelude.{◌≡◌, ℕ, ◌+◌, not, List, [], ◌++◌, map, sum_by, Option, None, Some, unwrap_or, if◌then◌else◌, nat_lt}
 use Rattle.std.specs.Option.{option_map}
 use Rattle.sp_text.specs.declared.fault.Quantity.TheVariants as quantity
 use Rattle.sp_text.specs.declared.fault.Span.{Span}
@@ -15,7 +15,6 @@ use Rattle.sp_tree.specs.declared.module.Body.{Body}
 use Rattle.sp_tree.specs.declared.module.Body.TheVariants as body
 use Rattle.sp_tree.specs.declared.module.FunDecl.{FunDecl}
 use Rattle.sp_tree.specs.declared.names.Ident.{Ident}
-use Rattle.sp_core.specs.declared.expr.Expr.{Expr}
 use Rattle.sp_core.specs.declared.function.Effect.{Effect}
 use Rattle.sp_core.specs.declared.function.Function.{Function}
 use Rattle.sp_core.specs.declared.function.Kind.{Kind}
@@ -23,7 +22,7 @@ use Rattle.sp_core.specs.declared.function.Kind.TheVariants as kind
 use Rattle.sp_core.specs.Effects.{effect_tree, effect_trees_of}
 use Rattle.sp_core.specs.Measures.{effect_nodes_in, nodes}
 use Rattle.sp_core.specs.Tree.{Tree, tree}
-use Rattle.sp_plain.specs.Text.{Text, text}
+use Rattle.sp_plain.specs.Text.{text}
 use Rattle.sp_scopes.specs.declared.heads.Head.{Head}
 use Rattle.sp_scopes.specs.declared.heads.Local.{Local}
 use Rattle.sp_scopes.specs.declared.heads.Sort.{Sort}
@@ -94,14 +93,14 @@ IsKindOf s h o (body.Effects ws) (kind.Operation es) = (h.sort ≡ sort.Operatio
 IsKindOf s h o (body.Effects ws) (kind.Both t es) = (h.sort ≡ sort.Both t) × AreEffectsMade s h.formals (answer_of h.sort o) ws es
 IsKindOf s h o b k = ⊥
 
--- the core function that a function with this head stands for, where `level` is the tree of its level
-pub record IsFunctionOf (s : Visible) (h : Head) (x : FunDecl) (level : Tree) (f : Function) : Type 0 where
+-- the core function that a function with this head stands for, where l is the tree of its level
+pub record IsFunctionOf (s : Visible) (h : Head) (x : FunDecl) (l : Tree) (f : Function) : Type 0 where
   pub name : f.name ≡ h.name
   pub visible : f.visible ≡ not x.hidden
   pub formals : f.formals ≡ map formal_of h.formals
   pub exceptions : AreExceptionsOf s h.formals x.exceptions f.exceptions
   pub kind : IsKindOf s h x.head.result x.body f.kind
-  pub level : tree f.level ≡ level
+  pub level : tree f.level ≡ l
 
 -- Nodes
 

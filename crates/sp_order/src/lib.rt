@@ -3,4 +3,4 @@
 
 mod order;
 
-pub use order::{has_levels, lattice_of};
+pub use order::{NoLattice, has_levels, lattice_of};

@@ -1,6 +1,5 @@
 -- An order has one flaw.
 use Rattle.std.proofs.Common.{◌≡◌, ◌<◌, ℕ, arith, inl, inr, sym}
-
 use Rattle.std.proofs.Math.Logic.{⊎_elim}
 use Rattle.std.proofs.lemmas.Bool.{cases_order}
 use Rattle.sp_text.specs.declared.fault.Rule.{Rule}

@@ -199,7 +199,7 @@ repeated_front before (d ∷ xs) ys e =
 limits_front : (xs ys : List Declaration) → limits_broken (xs ++ ys) ≡ [] → limits_broken xs ≡ []
 limits_front xs ys e = left_nothing (limits_broken xs) (limits_broken ys) (sym (flat_map-append limit_broken xs ys) ∙ e)
 
-interface_fine : (i : InterfaceTree) (ms : List Module) → scopes_broken i ms ≡ [] → lattice_broken (declarations i ms) i.lattice ≡ []
+pub interface_fine : (i : InterfaceTree) (ms : List Module) → scopes_broken i ms ≡ [] → lattice_broken (declarations i ms) i.lattice ≡ []
 interface_fine i ms h =
     let ds = declarations i ms in
     let here = map_nothing (λ v. record { file = 0; violation = v }) (interface_broken ds i) (left_nothing (in_file 0 (interface_broken ds i)) _ h) in

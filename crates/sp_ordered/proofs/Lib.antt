@@ -1,3 +1,5 @@
 pub mod Levels
 pub mod Flaws
 pub mod Judged
+pub mod Counts
+pub mod Told

@@ -1,9 +1,10 @@
 //! The names of an interface and its modules, with the lattice of its levels.
 #![tactic(auto)]
 
-ghost use Rattle.sp_ordered.specs.Laws.{OrderLaw};
+mod alone;
+mod judging;
+mod laws;
+mod ordered;
 
-/// What the order of the levels breaks is one list.
-pub fn order_law()
-    ensures { OrderLaw }
-{}
+pub use laws::order_law;
+pub use ordered::{Ordered, order_names};

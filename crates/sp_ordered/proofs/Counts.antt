@@ -30,6 +30,7 @@ use Rattle.sp_naming.specs.Names.{named, repeated_names}
 use Rattle.sp_naming.specs.Numbers.{after, counted, numbered}
 use Rattle.sp_naming.proofs.Meanings.{declared}
 use Rattle.sp_scopes.specs.declared.lent.LevelOrder.TheVariants as order
+use Rattle.sp_scopes.specs.declared.scopes.Scopes.{Scopes}
 use Rattle.sp_scopes.specs.Headers.{asked}
 use Rattle.sp_scopes.specs.Interfaces.{doubled_past, is_level, lattice_broken, level_rule, product_past, scopes_broken}
 use Rattle.sp_scopes.specs.Laws.{FoundAreLent, IsLent, LentAreFound}
@@ -217,3 +218,9 @@ has_levels i found lent h some =
       few = order_few ds i.lattice own few_own few some;
       pairs = order_pairs ds (level_there i found h) i.lattice own;
     }
+
+pub levels_there : (i k : InterfaceTree) (s : Scopes) → FoundAreLent → LentAreFound → k ≡ alone i → scopes_broken k [] ≡ [] → s ≡ scopes_of k [] → 1 ≤ level_count s → HasLevels s
+levels_there i k s found lent own h is some =
+    let same : s ≡ scopes_of (alone i) [] = is ∙ ap (λ k. scopes_of k []) own in
+    let fine : scopes_broken (alone i) [] ≡ [] = subst (λ k. scopes_broken k [] ≡ []) own h in
+    subst HasLevels (sym same) (has_levels i found lent fine (subst (λ s. 1 ≤ level_count s) same some))

@@ -1,5 +1,6 @@
 -- What is told of the order of the levels, with all that the interface and its modules declare.
 use Rattle.std.proofs.Common.{◌≡◌, refl, sym, ◌∙◌, ap, subst, ◌≤◌, ℕ, List, [], ◌∷◌, ◌++◌, length, Some}
+use Rattle.std.specs.Prelude.{Err, IfOk, Ok, Result}
 use Rattle.std.proofs.lemmas.List.{append-nil}
 use Rattle.sp_text.specs.declared.fault.Rule.{Rule}
 use Rattle.sp_text.specs.declared.fault.Span.{Span}
@@ -20,7 +21,7 @@ use Rattle.sp_scopes.specs.Scopes.{scopes_of}
 use Rattle.sp_order.specs.Orders.{ArePairsOf, HasLevels, IsLower, KeepsLattice, Lattice, count_of, level_count}
 use Rattle.sp_ordered.specs.declared.judging.Judgement.{Judgement}
 use Rattle.sp_ordered.specs.declared.judging.Judgement.TheVariants as judgement
-use Rattle.sp_ordered.specs.Judgements.{IsLatticeOf, IsTold}
+use Rattle.sp_ordered.specs.Judgements.{IsLatticeOf, IsTold, IsToldOf}
 use Rattle.sp_ordered.specs.Orders.{IsOrderJudged, Judged, alone, headers_broken, keyword}
 use Rattle.sp_ordered.proofs.Judged.{judged_flaw, judged_lattice, unjudged}
 use Rattle.sp_ordered.proofs.Levels.{alone_fine, one_naming, one_order}
@@ -74,3 +75,16 @@ headers_fine i ms vs h = ap (λ xs. xs ++ in_file 0 vs) h
 pub first_flaw : (i : InterfaceTree) (ms : List Module) (vs : List Violation) (p : Span) (r : Rule) → scopes_broken i ms ≡ [] → vs ≡ breaks p r →
     first_in_files (headers_broken i ms vs) ≡ Some (record { file = 0; violation = record { span = p; broken = requirement.Rule r } })
 first_flaw i ms vs p r h is = ap first_in_files (headers_fine i ms vs h ∙ ap (in_file 0) is)
+
+-- what is told of the levels of the lattice alone
+pub told_of : {E : Type 0} (i k : InterfaceTree) (s : Scopes) (r : Result Judgement E) → k ≡ alone i → scopes_broken k [] ≡ [] → s ≡ scopes_of k [] → IfOk r (IsToldOf s) → IfOk r (IsTold i)
+told_of {E} i k s r own h is t = by r (subst (λ s. IfOk r (IsToldOf s)) (is ∙ ap (λ k. scopes_of k []) own) t)
+  where
+    fine : scopes_broken (alone i) [] ≡ []
+    fine = subst (λ k. scopes_broken k [] ≡ []) own h
+
+    by : (r : Result Judgement E) → IfOk r (IsToldOf (scopes_of (alone i) [])) → IfOk r (IsTold i)
+    by (Ok (judgement.Kept o)) t = (fine, t)
+    by (Ok (judgement.Flawed q)) t = (fine, t)
+    by (Ok judgement.Unjudged) t = absurd t
+    by (Err e) t = t

@@ -40,7 +40,7 @@ use Rattle.sp_scopes.specs.Scopes.{entity_at, scopes_of}
 use Rattle.sp_scopes.proofs.Laws.{within_limits}
 use Rattle.sp_order.specs.Orders.{ArePairs, ArePairsOf, HasLevels, IsPairOf, count_of, level_count}
 use Rattle.sp_order.proofs.Ends.{some_chain}
-use Rattle.sp_ordered.specs.Orders.{alone}
+use Rattle.sp_specification.specs.Orders.{alone}
 use Rattle.sp_ordered.proofs.Levels.{interface_fine, left_nothing, right_nothing}
 
 -- Items

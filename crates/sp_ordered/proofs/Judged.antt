@@ -11,7 +11,7 @@ use Rattle.sp_scopes.specs.Interfaces.{scopes_broken}
 use Rattle.sp_scopes.specs.Scopes.{scopes_of}
 use Rattle.sp_order.specs.Orders.{Flawed, IsFlaw, IsLower, IsOrderBroken, KeepsLattice, Lattice, count_of, level_count}
 use Rattle.sp_order.proofs.Ends.{no_flaw}
-use Rattle.sp_ordered.specs.Orders.{IsOrderJudged, Judged, Unjudged, alone, keyword}
+use Rattle.sp_specification.specs.Orders.{IsOrderJudged, Judged, Unjudged, alone, keyword}
 use Rattle.sp_ordered.proofs.Flaws.{one_flaw}
 use Rattle.sp_ordered.proofs.Levels.{alone_fine, one_naming, one_order}
 

@@ -31,7 +31,7 @@ use Rattle.sp_scopes.specs.Lent.{declared_level, entity_level, level_at, level_n
 use Rattle.sp_scopes.specs.Modules.{limit_broken, limits_broken}
 use Rattle.sp_scopes.specs.Scopes.{scopes_of}
 use Rattle.sp_scopes.proofs.Laws.{no_repeats, within_limits}
-use Rattle.sp_ordered.specs.Orders.{alone}
+use Rattle.sp_specification.specs.Orders.{alone}
 
 -- Lists
 

@@ -1,5 +1,6 @@
 pub mod Levels
 pub mod Flaws
-pub mod Judged
 pub mod Counts
+pub mod Judged
 pub mod Told
+pub mod Broken

@@ -22,7 +22,7 @@ use Rattle.sp_order.specs.Orders.{ArePairsOf, HasLevels, IsLower, KeepsLattice, 
 use Rattle.sp_ordered.specs.declared.judging.Judgement.{Judgement}
 use Rattle.sp_ordered.specs.declared.judging.Judgement.TheVariants as judgement
 use Rattle.sp_ordered.specs.Judgements.{IsLatticeOf, IsTold, IsToldOf}
-use Rattle.sp_ordered.specs.Orders.{IsOrderJudged, Judged, alone, headers_broken, keyword}
+use Rattle.sp_specification.specs.Orders.{IsOrderJudged, Judged, alone, headers_broken, keyword}
 use Rattle.sp_ordered.proofs.Judged.{judged_flaw, judged_lattice, unjudged}
 use Rattle.sp_ordered.proofs.Levels.{alone_fine, one_naming, one_order}
 
@@ -36,6 +36,10 @@ named s = (s.levels, s.order)
 one : (i : InterfaceTree) (ms : List Module) → named (scopes_of (alone i) []) ≡ named (scopes_of i ms)
 one i ms = λ k. (one_naming i ms k, one_order i ms k)
 
+-- an order that is a lattice alone is one with all
+pub whole_kept : (i : InterfaceTree) (ms : List Module) → KeepsLattice (scopes_of (alone i) []) → KeepsLattice (scopes_of i ms)
+whole_kept i ms k = subst (λ (p : Named). IsLattice (count_of (length p.0) p.1) (IsLower p.1)) (one i ms) k
+
 -- the lattice of the levels alone is that of all
 pub whole : (i : InterfaceTree) (ms : List Module) (o : Order) → IsLatticeOf (scopes_of (alone i) []) o → IsLatticeOf (scopes_of i ms) o
 whole i ms o t = record {
@@ -46,7 +50,7 @@ whole i ms o t = record {
   };
   order = subst (λ (p : Named). IsOrderOf (count_of (length p.0) p.1) (IsLower p.1) o) (one i ms) t.order;
   lattice = t.lattice;
-  kept = subst (λ (p : Named). IsLattice (count_of (length p.0) p.1) (IsLower p.1)) (one i ms) t.kept;
+  kept = whole_kept i ms t.kept;
 }
 
 pub told_whole : (i : InterfaceTree) (ms : List Module) (s : Scopes) (j : Judgement) (o : Order) → IsTold i j → j ≡ judgement.Kept o → s ≡ scopes_of i ms → IsLatticeOf s o

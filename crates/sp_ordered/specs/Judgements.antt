@@ -8,7 +8,7 @@ use Rattle.sp_scopes.specs.Scopes.{scopes_of}
 use Rattle.sp_order.specs.Orders.{HasLevels, IsFlaw, IsLower, KeepsLattice, level_count}
 use Rattle.sp_ordered.specs.declared.judging.Judgement.{Judgement}
 use Rattle.sp_ordered.specs.declared.judging.Judgement.TheVariants as judgement
-use Rattle.sp_ordered.specs.Orders.{alone}
+use Rattle.sp_specification.specs.Orders.{alone}
 
 -- o is the lattice of the levels
 pub record IsLatticeOf (s : Scopes) (o : Order) : Type 0 where

@@ -1,7 +1,7 @@
 //! An interface with its lattice alone.
 
 ghost use Rattle.std.specs.Prelude.{◌≡◌, IfOk};
-ghost use Rattle.sp_ordered.specs.Orders as spec;
+ghost use Rattle.sp_specification.specs.Orders as spec;
 
 use sp_text::{Memory, Sequence, Span};
 use sp_tree::{Ident, InterfaceTree, LatticeTree};

@@ -6,5 +6,5 @@ mod judging;
 mod laws;
 mod ordered;
 
-pub use laws::order_law;
+pub use laws::{broken_law, order_law};
 pub use ordered::{Ordered, order_names};

@@ -6,13 +6,13 @@ ghost use Rattle.sp_text.specs.Violations as violations;
 ghost use Rattle.sp_text.specs.declared.fault.TextFault.TheVariants as fault;
 ghost use Rattle.sp_text.specs.declared.violation.FileViolation.{FileViolation as FileValue};
 ghost use Rattle.sp_text.specs.declared.violation.Violation.{Violation as Value};
-ghost use Rattle.sp_lattice.specs.Order.{IsLatticeOrder, IsOrderOf};
+ghost use Rattle.sp_lattice.specs.Order.{IsLatticeOrder, IsOrderOf, bottom_level, top_level};
 ghost use Rattle.sp_scopes.specs.Scopes.{scopes_of};
-ghost use Rattle.sp_order.specs.Orders.{HasLevels, IsLower, KeepsLattice, level_count};
+ghost use Rattle.sp_order.specs.Orders.{AreEnds, HasLevels, IsLower, KeepsLattice, level_count};
 ghost use Rattle.sp_tree.specs.declared.interface.InterfaceTree.{InterfaceTree as InterfaceValue};
 ghost use Rattle.sp_ordered.specs.Judgements.{IsTold};
-ghost use Rattle.sp_ordered.specs.Orders as spec;
-ghost use Rattle.sp_ordered.specs.Orders.{IsOrderJudged, headers_broken};
+ghost use Rattle.sp_specification.specs.Orders as spec;
+ghost use Rattle.sp_specification.specs.Orders.{IsOrderJudged, headers_broken};
 
 use crate::alone::keyword;
 use crate::judging::{Judgement, judge_order};
@@ -107,6 +107,7 @@ pub fn order_names(
     ensures order { IfOk result (λ r. IsOrderOf (level_count r.scopes) (IsLower r.scopes.order) r.lattice) }
     ensures lattice { IfOk result (λ r. IsLatticeOrder r.lattice) }
     ensures levels { IfOk result (λ r. HasLevels r.scopes) }
+    ensures ends { IfOk result (λ r. AreEnds r.scopes (bottom_level r.lattice) (top_level r.lattice)) }
     ensures kept { IfOk result (λ r. KeepsLattice r.scopes) }
     ensures fine { IfOk result (λ r. IsOrderJudged interface.now []) }
 {

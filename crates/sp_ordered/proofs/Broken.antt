@@ -1,5 +1,5 @@
 -- What an interface and its modules break is one list.
-use Rattle.std.proofs.Common.{◌≡◌, refl, sym, ◌∙◌, ap, List, [], ◌∷◌, ◌++◌}
+use Rattle.std.proofs.Common.{◌≡◌, refl, sym, ◌∙◌, ap, List, [], ◌∷◌}
 use Rattle.sp_text.specs.declared.fault.Span.{Span}
 use Rattle.sp_text.specs.declared.violation.FileViolation.{FileViolation}
 use Rattle.sp_text.specs.declared.violation.Violation.{Violation}
@@ -9,7 +9,7 @@ use Rattle.sp_tree.specs.declared.module.Module.{Module}
 use Rattle.sp_scopes.specs.declared.scopes.Scopes.{Scopes}
 use Rattle.sp_scopes.specs.Interfaces.{scopes_broken}
 use Rattle.sp_scopes.specs.Scopes.{scopes_of}
-use Rattle.sp_order.specs.Orders.{AreEnds, Flawed, IsOrderBroken, KeepsLattice, Lattice}
+use Rattle.sp_order.specs.Orders.{Flawed, IsOrderBroken, KeepsLattice, Lattice}
 use Rattle.sp_order.proofs.Ends.{one_bottom, one_top}
 use Rattle.sp_specification.specs.Broken.{AreBroken, Headers, Rest, rest_broken}
 use Rattle.sp_specification.specs.Orders.{IsOrderJudged, alone, headers_broken, keyword}

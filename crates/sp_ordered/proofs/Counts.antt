@@ -1,21 +1,18 @@
 -- Where the lattice by itself breaks nothing, it has at most 256 levels, and pairs of them alone.
-use Rattle.std.proofs.Common.{◌≡◌, ◌≤◌, ◌<◌, ◌*◌, ◌^◌, ◌+◌, refl, sym, ◌∙◌, ap, subst, arith, ℕ, zero, suc, List, [], ◌∷◌, ◌++◌, length, Bool, true, false, Option, Some, None, cond, map}
-use Rattle.std.specs.Prelude.{min, nat_le, nat_lt, slice_get}
+use Rattle.std.proofs.Common.{◌≡◌, ◌≤◌, ◌<◌, ◌*◌, ◌^◌, refl, sym, ◌∙◌, ap, subst, arith, ℕ, zero, suc, List, [], ◌∷◌, ◌++◌, length, Bool, true, false, Option, Some, None, cond}
+use Rattle.std.specs.Prelude.{nat_le, nat_lt, slice_get}
 use Rattle.std.specs.List.{flat_map}
 use Rattle.std.specs.Option.{option_map}
 use Rattle.std.proofs.Math.Logic.{⊎_elim}
 use Rattle.std.proofs.Math.Nat.{le-mul_of_pos_right, mul-le-mul_right, mul_assoc, pow-succ'}
 use Rattle.std.proofs.Math.Pow.{pow_mono}
 use Rattle.std.proofs.lemmas.Bool.{cases_lt, leb-false, leb-true, ltb-false}
-use Rattle.std.proofs.lemmas.Bool.Decides.{nat_tests}
 use Rattle.std.proofs.lemmas.List.{append-nil}
 use Rattle.std.proofs.lemmas.Nat.{pow_pos}
 use Rattle.sp_text.specs.declared.fault.Quantity.TheVariants as quantity
 use Rattle.sp_text.specs.declared.fault.Rule.TheVariants as rule
 use Rattle.sp_text.specs.declared.fault.Span.{Span}
 use Rattle.sp_text.specs.declared.limits.TheConstants.{MOST_LEVELS}
-use Rattle.sp_text.specs.declared.violation.FileViolation.{FileViolation}
-use Rattle.sp_text.specs.declared.violation.Violation.{Violation}
 use Rattle.sp_text.specs.Violations.{breaks, exceeds, in_file}
 use Rattle.sp_tree.specs.declared.interface.InterfaceTree.{InterfaceTree}
 use Rattle.sp_tree.specs.declared.interface.LatticeTree.{LatticeTree}
@@ -29,16 +26,15 @@ use Rattle.sp_naming.specs.Levels.{level, level_declarations, listed_levels, pro
 use Rattle.sp_naming.specs.Names.{named, repeated_names}
 use Rattle.sp_naming.specs.Numbers.{after, counted, numbered}
 use Rattle.sp_naming.proofs.Meanings.{declared}
-use Rattle.sp_scopes.specs.declared.lent.LevelOrder.TheVariants as order
 use Rattle.sp_scopes.specs.declared.scopes.Scopes.{Scopes}
 use Rattle.sp_scopes.specs.Headers.{asked}
 use Rattle.sp_scopes.specs.Interfaces.{doubled_past, is_level, lattice_broken, level_rule, product_past, scopes_broken}
-use Rattle.sp_scopes.specs.Laws.{FoundAreLent, IsLent, LentAreFound}
+use Rattle.sp_scopes.specs.Laws.{FoundAreLent, LentAreFound}
 use Rattle.sp_scopes.specs.Lent.{below, entity_level, level_at, level_names, level_of, level_order, neighbours}
 use Rattle.sp_scopes.specs.Modules.{limit_broken, over}
-use Rattle.sp_scopes.specs.Scopes.{entity_at, scopes_of}
+use Rattle.sp_scopes.specs.Scopes.{scopes_of}
 use Rattle.sp_scopes.proofs.Laws.{within_limits}
-use Rattle.sp_order.specs.Orders.{ArePairs, ArePairsOf, HasLevels, IsPairOf, count_of, level_count}
+use Rattle.sp_order.specs.Orders.{ArePairs, ArePairsOf, HasLevels, count_of, level_count}
 use Rattle.sp_order.proofs.Ends.{some_chain}
 use Rattle.sp_specification.specs.Orders.{alone}
 use Rattle.sp_ordered.proofs.Levels.{interface_fine, left_nothing, right_nothing}

@@ -1,19 +1,17 @@
 -- What an order breaks is one list.
-use Rattle.std.proofs.Common.{◌≡◌, refl, sym, ◌∙◌, ap, subst, ℕ, List, [], ◌∷◌, ◌++◌, length}
+use Rattle.std.proofs.Common.{◌≡◌, refl, sym, ap, List, []}
 use Rattle.sp_text.specs.declared.fault.Rule.{Rule}
 use Rattle.sp_text.specs.declared.fault.Span.{Span}
 use Rattle.sp_text.specs.declared.violation.Violation.{Violation}
 use Rattle.sp_text.specs.Violations.{breaks}
 use Rattle.sp_tree.specs.declared.interface.InterfaceTree.{InterfaceTree}
-use Rattle.sp_tree.specs.declared.module.Module.{Module}
 use Rattle.sp_scopes.specs.declared.scopes.Scopes.{Scopes}
 use Rattle.sp_scopes.specs.Interfaces.{scopes_broken}
 use Rattle.sp_scopes.specs.Scopes.{scopes_of}
-use Rattle.sp_order.specs.Orders.{Flawed, IsFlaw, IsLower, IsOrderBroken, KeepsLattice, Lattice, count_of, level_count}
+use Rattle.sp_order.specs.Orders.{Flawed, IsFlaw, IsLower, IsOrderBroken, KeepsLattice, Lattice, level_count}
 use Rattle.sp_order.proofs.Ends.{no_flaw}
 use Rattle.sp_specification.specs.Orders.{IsOrderJudged, Judged, Unjudged, alone, keyword}
 use Rattle.sp_ordered.proofs.Flaws.{one_flaw}
-use Rattle.sp_ordered.proofs.Levels.{alone_fine, one_naming, one_order}
 
 -- Two orders
 

@@ -7,8 +7,6 @@ use Rattle.std.proofs.lemmas.Grind.{flat_map-append}
 use Rattle.std.proofs.lemmas.List.{append-nil}
 use Rattle.sp_text.specs.declared.fault.Rule.TheVariants as rule
 use Rattle.sp_text.specs.declared.fault.Span.{Span}
-use Rattle.sp_text.specs.declared.violation.FileViolation.{FileViolation}
-use Rattle.sp_text.specs.declared.violation.Violation.{Violation}
 use Rattle.sp_text.specs.Violations.{breaks, in_file}
 use Rattle.sp_tree.specs.declared.interface.InterfaceTree.{InterfaceTree}
 use Rattle.sp_tree.specs.declared.interface.LatticeTree.{LatticeTree}

@@ -1,5 +1,5 @@
 -- What is told of the order of the levels, with all that the interface and its modules declare.
-use Rattle.std.proofs.Common.{◌≡◌, refl, sym, ◌∙◌, ap, subst, ◌≤◌, ℕ, List, [], ◌∷◌, ◌++◌, length, Some}
+use Rattle.std.proofs.Common.{◌≡◌, sym, ◌∙◌, ap, subst, ◌≤◌, ℕ, List, [], ◌++◌, length, Some}
 use Rattle.std.specs.Prelude.{Err, IfOk, Ok, Result}
 use Rattle.std.proofs.lemmas.List.{append-nil}
 use Rattle.sp_text.specs.declared.fault.Rule.{Rule}
@@ -18,13 +18,13 @@ use Rattle.sp_scopes.specs.declared.lent.LevelOrder.{LevelOrder}
 use Rattle.sp_scopes.specs.declared.scopes.Scopes.{Scopes}
 use Rattle.sp_scopes.specs.Interfaces.{scopes_broken}
 use Rattle.sp_scopes.specs.Scopes.{scopes_of}
-use Rattle.sp_order.specs.Orders.{ArePairsOf, HasLevels, IsLower, KeepsLattice, Lattice, count_of, level_count}
+use Rattle.sp_order.specs.Orders.{ArePairsOf, IsLower, KeepsLattice, Lattice, count_of}
 use Rattle.sp_ordered.specs.declared.judging.Judgement.{Judgement}
 use Rattle.sp_ordered.specs.declared.judging.Judgement.TheVariants as judgement
 use Rattle.sp_ordered.specs.Judgements.{IsLatticeOf, IsTold, IsToldOf}
 use Rattle.sp_specification.specs.Orders.{IsOrderJudged, Judged, alone, headers_broken, keyword}
 use Rattle.sp_ordered.proofs.Judged.{judged_flaw, judged_lattice, unjudged}
-use Rattle.sp_ordered.proofs.Levels.{alone_fine, one_naming, one_order}
+use Rattle.sp_ordered.proofs.Levels.{one_naming, one_order}
 
 -- names of levels with their declared order
 abbrev Named : Type 0

@@ -1,4 +1,4 @@
-use Rattle.std.proofs.Common.{◌≡◌, ◌∙◌, ap}
+use Rattle.std.proofs.Common.{◌∙◌, ap}
 use Rattle.sp_text.specs.Violations.{in_file}
 use Rattle.sp_scopes.specs.Interfaces.{scopes_broken}
 use Rattle.sp_order.proofs.Ends.{ends}

@@ -1,0 +1,3 @@
+mod Rooms
+mod Numbered
+pub mod Seen

@@ -1,3 +1,3 @@
-mod Rooms
+mod Conditions
 mod Numbered
 pub mod Seen

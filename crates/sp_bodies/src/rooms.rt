@@ -14,7 +14,7 @@ fn has_condition_room(formals: &[Local], exception: &(Ident, ExprTree)) -> bool
 }
 
 /// Whether the variables of all conditions, with the formals, can be numbered. Those of a text of limited height can.
-#[tactic(auto, using(crate::proofs::Rooms::rooms_next))]
+#[tactic(auto, using(crate::proofs::Conditions::rooms_next))]
 pub fn have_exception_room(formals: &[Local], exceptions: &[(Ident, ExprTree)]) -> bool
     ensures { IsTrue result → HaveRoom (length formals.now) exceptions.now }
 {

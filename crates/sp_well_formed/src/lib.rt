@@ -1,0 +1,2 @@
+//! Specifications of texts that break nothing are well-formed.
+#![tactic(auto)]

@@ -68,7 +68,7 @@ pub record IsFineHead (n : ℕ) (h : Head) : Type 0 where
   pub sort : SortIn n h.sort
 
 -- the head of a parameter or of a definition
-pub IsPlainHead : ℕ → Head → Type 0
+abbrev pub IsPlainHead : ℕ → Head → Type 0
 IsPlainHead n h = IsFineHead n h × (t : Ty) × (h.sort ≡ sort.Plain t)
 
 past_few : (n : ℕ) (q : Quantity) (xs : List Ident) → past n q xs ≡ [] → length xs ≤ n
@@ -162,7 +162,6 @@ module _ (lent : FoundAreLent) (i : InterfaceTree) (ms : List Module) (h : scope
   parts = nothing_of_parts (file_broken all i.modules) 0 ms (modules_fine i ms h)
 
   pub params_fine : (k : ℕ) (g : Head) → slice_get (scopes_of i ms).parameters k ≡ Some g → IsPlainHead count g
-  unfolding IsPlainHead
   params_fine k g at =
       let r = under_map (λ (t : Placed Module Header). plain_head (sight all i.modules t.number t.part) t.item) (placed (λ (m : Module). m.parameters) 0 ms) k g
           (sym (ap (λ z. slice_get z k) (made_placed (λ (m : Module). m.parameters) (λ n m. plain_head (sight all i.modules n m)) (parameter_heads all i.modules) (λ n m. refl) 0 ms)) ∙ at) in
@@ -180,7 +179,6 @@ module _ (lent : FoundAreLent) (i : InterfaceTree) (ms : List Module) (h : scope
           makes_nothing (header_broken see) m.parameters (left_nothing (flat_map (header_broken see) m.parameters) rest (headers_fine n m e)) j a k
 
   pub definitions_fine : (k : ℕ) (g : Definition) → slice_get (scopes_of i ms).definitions k ≡ Some g → IsPlainHead count g.head
-  unfolding IsPlainHead
   definitions_fine k g at =
       let r = under_map (λ (t : Placed Module (Header × ExprTree)). definition_of t.number (sight all i.modules t.number t.part) t.item) (placed (λ (m : Module). m.definitions) 0 ms) k g
           (sym (ap (λ z. slice_get z k) (made_placed (λ (m : Module). m.definitions) (λ n m. definition_of n (sight all i.modules n m)) (module_definitions all i.modules) (λ n m. refl) 0 ms)) ∙ at) in

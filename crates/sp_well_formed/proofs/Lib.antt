@@ -1,0 +1,13 @@
+mod Items
+mod Limits
+mod LevelNames
+mod Headers
+mod Names
+mod Depths
+mod Earlier
+mod Functions
+mod Definitions
+mod Scopes
+mod Lists
+mod Walks
+mod Whole

@@ -1,5 +1,5 @@
 -- Definitions that break nothing may all be called: with their expressions, what is visible stays that of the signature.
-use Rattle.std.proofs.Common.{◌≡◌, refl, sym, ◌∙◌, ap, subst, arith, ℕ, zero, suc, ◌+◌, List, [], ◌∷◌, ◌++◌, Option, Some, append_assoc, length, length-append, map, take}
+use Rattle.std.proofs.Common.{◌≡◌, refl, sym, ◌∙◌, ap, subst, arith, ℕ, suc, ◌+◌, List, [], ◌∷◌, ◌++◌, Some, append_assoc, length, length-append, map, take}
 use Rattle.std.specs.Prelude.{slice_get}
 use Rattle.std.proofs.lemmas.List.{append-nil}
 use Rattle.sp_text.specs.Violations.{in_file}
@@ -18,7 +18,7 @@ use Rattle.sp_judge.specs.Broken.{broken, limit_rules, whole_broken}
 use Rattle.sp_judge.specs.Names.{sort_type}
 use Rattle.sp_judge.specs.Translation.{translation}
 use Rattle.sp_judge.specs.Visible.{Visible, definition_at, definition_head}
-use Rattle.sp_definitions.specs.Definitions.{definition_core, kept}
+use Rattle.sp_definitions.specs.Definitions.{definition_core}
 use Rattle.sp_typed.specs.Fits.{AreNumbers, HoldNoNew, IsScopeOf}
 use Rattle.sp_typed.proofs.Defined.{defined_fresh, defined_scope}
 use Rattle.sp_typed.proofs.Fitting.{behind_own}
@@ -84,15 +84,16 @@ module _ (sg : Signature) (s : Scopes) (bottom top : ℕ) where
       let is : tree core ≡ whole = tree_of (definition_core s bottom top before d) ∙ kept_fine (span (text d.text)) whole fits in
       let asked = subst (λ u. whole_broken own site.Outside d.head.formals (sort_type u) (text d.text) ≡ []) plain fine in
       let there : definition_at own (length before) ≡ Some d.head = ap definition_head at in
-      let here = w d.module_number in
-      (renumbered k d.module_number before (before ++ core ∷ []) (w k).0 (defined_scope sg own here.0 here.1 d.head t (text d.text) core there plain n asked is),
-      defined_fresh sg own here.0 here.1 d.head t (text d.text) core there plain n asked is)
+      let here = w d.module_number in (
+        renumbered k d.module_number before (before ++ core ∷ []) (w k).0 (defined_scope sg own here.0 here.1 d.head t (text d.text) core there plain n asked is),
+        defined_fresh sg own here.0 here.1 d.head t (text d.text) core there plain n asked is,
+      )
 
   abbrev all : List Expr
   all = cores_from s bottom top [] s.definitions
 
   module _ (plain : (k : ℕ) (d : Definition) → slice_get s.definitions k ≡ Some d → (t : Ty) × (d.head.sort ≡ sort.Plain t))
-    (numbers : (k : ℕ) (d : Definition) → slice_get s.definitions k ≡ Some d → AreNumbers (text d.text)) where
+      (numbers : (k : ℕ) (d : Definition) → slice_get s.definitions k ≡ Some d → AreNumbers (text d.text)) where
     -- those after the first ones
     rest_defined : (before : List Expr) (ds : List Definition) → all ≡ before ++ cores_from s bottom top before ds → ((j : ℕ) → slice_get s.definitions (length before + j) ≡ slice_get ds j) →
         definitions_broken (view s 0 bottom top) (length before) ds ≡ [] → AreScopes before → AreScopes all

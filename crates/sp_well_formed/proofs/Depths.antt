@@ -1,5 +1,5 @@
 -- Derived functions whose depth is within the limit are as deep as a specification allows.
-use Rattle.std.proofs.Common.{◌≡◌, refl, sym, ◌∙◌, ap, subst, arith, ℕ, zero, suc, ◌+◌, ◌≤◌, ◌<◌, List, [], ◌∷◌, ◌++◌, length, length-append, Option, Some, None, ⊎_elim}
+use Rattle.std.proofs.Common.{◌≡◌, refl, sym, ◌∙◌, ap, subst, arith, ℕ, zero, suc, ◌≤◌, ◌<◌, List, [], ◌∷◌, ◌++◌, length, length-append, Option, Some, None, ⊎_elim}
 use Rattle.std.specs.Prelude.{max, slice_get}
 use Rattle.std.proofs.lemmas.Bool.{cases_lt}
 use Rattle.sp_values.specs.declared.value.Ty.{Ty}
@@ -67,9 +67,11 @@ module _ (before : List ℕ) (n : ℕ) (P Q : ℕ → Type 0) (known : (j : ℕ)
     looks (Not a) h k = looks a h k
     looks (Two o a b) h k = (looks a h.0 (left_max (greatest before a) (greatest before b) n k), looks b h.1 (right_max (greatest before a) (greatest before b) n k))
     looks (If c a b) h k =
-        let r = right_max (greatest before c) (max (greatest before a) (greatest before b)) n k in
-        (looks c h.0 (left_max (greatest before c) (max (greatest before a) (greatest before b)) n k), looks a h.1 (left_max (greatest before a) (greatest before b) n r),
-        looks b h.2 (right_max (greatest before a) (greatest before b) n r))
+        let r = right_max (greatest before c) (max (greatest before a) (greatest before b)) n k in (
+          looks c h.0 (left_max (greatest before c) (max (greatest before a) (greatest before b)) n k),
+          looks a h.1 (left_max (greatest before a) (greatest before b) n r),
+          looks b h.2 (right_max (greatest before a) (greatest before b) n r),
+        )
     looks (Param p ds) h k = look ds h k
     looks (Look j ds) h k = (known j h.0 (left_max (depth_at before j) (greatest_in before ds) n k), look ds h.1 (right_max (depth_at before j) (greatest_in before ds) n k))
     looks (Every i t b) h k = looks b h k

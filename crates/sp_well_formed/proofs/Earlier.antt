@@ -1,5 +1,5 @@
 -- A derivation that breaks nothing looks at earlier derived functions alone, and at others.
-use Rattle.std.proofs.Common.{◌≡◌, refl, sym, ◌∙◌, ap, subst, rules, arith, ℕ, zero, suc, ◌+◌, ◌<◌, List, [], ◌∷◌, ◌++◌, Bool, true, false, Option, Some, length}
+use Rattle.std.proofs.Common.{◌≡◌, sym, ◌∙◌, ap, subst, rules, arith, ℕ, zero, suc, ◌+◌, ◌<◌, List, [], ◌∷◌, ◌++◌, false, Some}
 use Rattle.std.specs.Prelude.{IsTrue, nat_lt, not, slice_get, ◌&&◌}
 use Rattle.std.proofs.lemmas.Option.{slice_get_within}
 use Rattle.sp_text.specs.declared.fault.Rule.TheVariants as rule

@@ -1,6 +1,6 @@
 -- A function that breaks nothing, with its level, is well-formed.
-use Rattle.std.proofs.Common.{◌≡◌, refl, sym, ◌∙◌, ap, subst, rules, arith, ℕ, suc, ◌+◌, ◌≤◌, List, [], ◌∷◌, ◌++◌, Option, Some, None, length, map}
-use Rattle.std.specs.Prelude.{IsTrue, if◌then◌else◌, nat_eq, nat_lt, sum_by, true}
+use Rattle.std.proofs.Common.{◌≡◌, refl, sym, ◌∙◌, ap, subst, rules, arith, ℕ, ◌+◌, ◌≤◌, List, [], ◌∷◌, ◌++◌, Option, Some, length, map}
+use Rattle.std.specs.Prelude.{IsTrue, if◌then◌else◌, nat_eq, nat_lt, sum_by}
 use Rattle.std.specs.List.{All}
 use Rattle.std.proofs.lemmas.List.Elements.{All-cons, All-nil}
 use Rattle.std.proofs.lemmas.List.Sums.{sum_by-cons}
@@ -10,7 +10,6 @@ use Rattle.sp_text.specs.declared.fault.Span.{Span}
 use Rattle.sp_text.specs.declared.limits.TheConstants.{MOST_ARGUMENTS, MOST_DERIVATION_DEPTH, MOST_FUNCTION_NODES}
 use Rattle.sp_text.specs.Firsts.{behind}
 use Rattle.sp_text.specs.Violations.{breaks, exceeds}
-use Rattle.sp_values.specs.declared.value.Ty.{Ty}
 use Rattle.sp_values.specs.declared.value.Ty.TheVariants as ty
 use Rattle.sp_tree.specs.declared.expr.ExprTree.{ExprTree}
 use Rattle.sp_tree.specs.declared.interface.Equation.{Equation}
@@ -19,7 +18,6 @@ use Rattle.sp_tree.specs.declared.module.Body.TheVariants as body
 use Rattle.sp_tree.specs.declared.module.FunDecl.{FunDecl}
 use Rattle.sp_tree.specs.declared.names.Ident.{Ident}
 use Rattle.sp_core.specs.declared.expr.Expr.{Expr}
-use Rattle.sp_core.specs.declared.function.Formal.{Formal}
 use Rattle.sp_core.specs.declared.function.Function.{Function}
 use Rattle.sp_core.specs.declared.function.Kind.{Kind}
 use Rattle.sp_core.specs.declared.function.Kind.TheVariants as kind
@@ -32,8 +30,6 @@ use Rattle.sp_plain.specs.Text.{text}
 use Rattle.sp_naming.specs.Names.{repeated_names}
 use Rattle.sp_scopes.specs.declared.heads.Head.{Head}
 use Rattle.sp_scopes.specs.declared.heads.Local.{Local}
-use Rattle.sp_scopes.specs.declared.heads.Sort.{Sort}
-use Rattle.sp_scopes.specs.declared.heads.Sort.TheVariants as sort
 use Rattle.sp_judge.specs.Broken.{count_rule}
 use Rattle.sp_judge.specs.Visible.{Visible, see}
 use Rattle.sp_typed.specs.Fits.{any_type, types, AreNumbers, AreTypes, IsAsked}
@@ -44,8 +40,8 @@ use Rattle.sp_effect_laws.proofs.Results.{both, operation}
 use Rattle.sp_functions.specs.Assertions.{formal_of}
 use Rattle.sp_functions.specs.Equations.{equation_broken, formals_of, function_rule, head_of, locals_of, with_types}
 use Rattle.sp_functions.specs.Exceptions.{AreExceptionsOf, exceptions_broken}
-use Rattle.sp_functions.specs.Judged.{derivation_broken, initial_broken, level_broken, made}
-use Rattle.sp_functions.specs.Laws.{AreExceptions, IsSeenBy}
+use Rattle.sp_functions.specs.Judged.{derivation_broken, initial_broken, level_broken}
+use Rattle.sp_functions.specs.Laws.{IsSeenBy}
 use Rattle.sp_functions.proofs.Known.{derivation, initial, level}
 use Rattle.sp_functions.proofs.Names.{exceptions}
 use Rattle.sp_specification.specs.Ends.{level_tree}

@@ -1,6 +1,6 @@
 -- Heads of headers that break nothing: their types are declared, and their formals are few.
 use Rattle.std.proofs.Common.{◌≡◌, refl, sym, ◌∙◌, ap, subst, arith, ℕ, zero, suc, ◌≤◌, List, [], ◌∷◌, ◌++◌, length, Option, Some, None, map}
-use Rattle.std.specs.Prelude.{Bool, true, false, IsTrue, if◌then◌else◌, nat_lt, slice_get}
+use Rattle.std.specs.Prelude.{true, IsTrue, nat_lt, slice_get}
 use Rattle.std.specs.List.{flat_map}
 use Rattle.std.specs.Option.{option_map}
 use Rattle.std.proofs.lemmas.Bool.Decides.{nat_tests}
@@ -34,13 +34,13 @@ use Rattle.sp_scopes.specs.declared.heads.Local.{Local}
 use Rattle.sp_scopes.specs.declared.heads.Sort.{Sort}
 use Rattle.sp_scopes.specs.declared.heads.Sort.TheVariants as sort
 use Rattle.sp_scopes.specs.declared.lent.Definition.{Definition}
-use Rattle.sp_scopes.specs.Headers.{asked, formal_type, formals_broken, header_broken, is_type, names_of, past, result_broken, see_of, type_rule}
-use Rattle.sp_scopes.specs.Heads.{effects_sort, entity_type, function_head, function_heads, function_sort, local_of, named_type, parameter_heads, plain_head, sight, type_of, value_type}
+use Rattle.sp_scopes.specs.Headers.{asked, formal_type, formals_broken, header_broken, is_type, names_of, past, result_broken, type_rule}
+use Rattle.sp_scopes.specs.Heads.{entity_type, function_head, function_heads, function_sort, local_of, named_type, parameter_heads, plain_head, sight, type_of, value_type}
 use Rattle.sp_scopes.specs.Interfaces.{scopes_broken}
 use Rattle.sp_scopes.specs.Laws.{FoundAreLent, IsLent}
 use Rattle.sp_scopes.specs.Lent.{definition_of, module_definitions}
 use Rattle.sp_scopes.specs.Modules.{definition_broken, file_broken, function_broken, headers_broken, module_broken, own_name, row_broken}
-use Rattle.sp_scopes.specs.Scopes.{entity_at, module_takes, scopes_of}
+use Rattle.sp_scopes.specs.Scopes.{module_takes, scopes_of}
 use Rattle.sp_scopes.proofs.Laws.{modules_fine}
 use Rattle.sp_well_formed.proofs.Items.{OfParts, Placed, left_nothing, made_placed, makes_nothing, map_length, map_nothing, nothing_of_parts, of_placed, placed, right_nothing, under_map}
 use Rattle.sp_well_formed.proofs.Limits.{seen_is}
@@ -164,7 +164,7 @@ module _ (lent : FoundAreLent) (i : InterfaceTree) (ms : List Module) (h : scope
   pub params_fine : (k : ℕ) (g : Head) → slice_get (scopes_of i ms).parameters k ≡ Some g → IsPlainHead count g
   params_fine k g at =
       let r = under_map (λ (t : Placed Module Header). plain_head (sight all i.modules t.number t.part) t.item) (placed (λ (m : Module). m.parameters) 0 ms) k g
-          (sym (ap (λ z. slice_get z k) (made_placed (λ (m : Module). m.parameters) (λ n m. plain_head (sight all i.modules n m)) (parameter_heads all i.modules) (λ n m. refl) 0 ms)) ∙ at) in
+      (sym (ap (λ z. slice_get z k) (made_placed (λ (m : Module). m.parameters) (λ n m. plain_head (sight all i.modules n m)) (parameter_heads all i.modules) (λ n m. refl) 0 ms)) ∙ at) in
       let t = r.0 in
       let see = sight all i.modules t.number t.part in
       let fine = of_placed (λ (m : Module). m.parameters) (λ n m. file_broken all i.modules n m ≡ []) (λ (t : Placed Module Header). header_broken (sight all i.modules t.number t.part) t.item ≡ []) each 0 ms parts k t r.1 in
@@ -181,7 +181,7 @@ module _ (lent : FoundAreLent) (i : InterfaceTree) (ms : List Module) (h : scope
   pub definitions_fine : (k : ℕ) (g : Definition) → slice_get (scopes_of i ms).definitions k ≡ Some g → IsPlainHead count g.head
   definitions_fine k g at =
       let r = under_map (λ (t : Placed Module (Header × ExprTree)). definition_of t.number (sight all i.modules t.number t.part) t.item) (placed (λ (m : Module). m.definitions) 0 ms) k g
-          (sym (ap (λ z. slice_get z k) (made_placed (λ (m : Module). m.definitions) (λ n m. definition_of n (sight all i.modules n m)) (module_definitions all i.modules) (λ n m. refl) 0 ms)) ∙ at) in
+      (sym (ap (λ z. slice_get z k) (made_placed (λ (m : Module). m.definitions) (λ n m. definition_of n (sight all i.modules n m)) (module_definitions all i.modules) (λ n m. refl) 0 ms)) ∙ at) in
       let t = r.0 in
       let see = sight all i.modules t.number t.part in
       let fine = of_placed (λ (m : Module). m.definitions) (λ n m. file_broken all i.modules n m ≡ []) (λ (t : Placed Module (Header × ExprTree)). header_broken (sight all i.modules t.number t.part) t.item.0 ≡ []) each 0 ms parts k t r.1 in
@@ -199,7 +199,7 @@ module _ (lent : FoundAreLent) (i : InterfaceTree) (ms : List Module) (h : scope
   pub functions_fine : (k : ℕ) (g : Head) → slice_get (scopes_of i ms).functions k ≡ Some g → IsFineHead count g
   functions_fine k g at =
       let r = under_map (λ (t : Placed Module FunDecl). function_head (sight all i.modules t.number t.part) t.item) (placed (λ (m : Module). m.functions) 0 ms) k g
-          (sym (ap (λ z. slice_get z k) (made_placed (λ (m : Module). m.functions) (λ n m. function_head (sight all i.modules n m)) (function_heads all i.modules) (λ n m. refl) 0 ms)) ∙ at) in
+      (sym (ap (λ z. slice_get z k) (made_placed (λ (m : Module). m.functions) (λ n m. function_head (sight all i.modules n m)) (function_heads all i.modules) (λ n m. refl) 0 ms)) ∙ at) in
       let t = r.0 in
       let see = sight all i.modules t.number t.part in
       let fine = of_placed (λ (m : Module). m.functions) (λ n m. file_broken all i.modules n m ≡ []) (λ (t : Placed Module FunDecl). header_broken (sight all i.modules t.number t.part) t.item.head ≡ []) each 0 ms parts k t r.1 in

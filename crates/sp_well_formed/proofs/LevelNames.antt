@@ -1,6 +1,6 @@
 -- How many levels are declared: those of the lattice, and a product within the limit has all of its own.
-use Rattle.std.proofs.Common.{◌≡◌, refl, sym, ◌∙◌, ap, subst, arith, ℕ, zero, suc, ◌+◌, ◌*◌, ◌^◌, ◌≤◌, ◌<◌, List, [], ◌∷◌, ◌++◌, length, Option, Some, None, ⊎_elim}
-use Rattle.std.specs.Prelude.{Bool, true, false, if◌then◌else◌, min, nat_le}
+use Rattle.std.proofs.Common.{◌≡◌, refl, sym, ◌∙◌, ap, arith, ℕ, zero, suc, ◌+◌, ◌*◌, ◌^◌, ◌≤◌, ◌<◌, List, [], ◌∷◌, ◌++◌, length, Option, Some, None, ⊎_elim}
+use Rattle.std.specs.Prelude.{true, if◌then◌else◌, nat_le}
 use Rattle.std.specs.List.{flat_map}
 use Rattle.std.proofs.lemmas.Bool.{cases_lt}
 use Rattle.std.proofs.lemmas.Bool.Decides.{nat_tests}
@@ -10,7 +10,6 @@ use Rattle.std.proofs.Math.Nat.{mul-le-mul}
 use Rattle.std.proofs.Math.Pow.{pow_mono}
 use Rattle.sp_tree.specs.declared.expr.ExprTree.{ExprTree}
 use Rattle.sp_tree.specs.declared.interface.InterfaceTree.{InterfaceTree}
-use Rattle.sp_tree.specs.declared.interface.LatticeTree.{LatticeTree}
 use Rattle.sp_tree.specs.declared.module.FunDecl.{FunDecl}
 use Rattle.sp_tree.specs.declared.module.Header.{Header}
 use Rattle.sp_tree.specs.declared.module.Module.{Module}

@@ -1,5 +1,5 @@
 -- Where names and headers break nothing, each sort that is declared is within its limit.
-use Rattle.std.proofs.Common.{◌≡◌, refl, sym, ◌∙◌, ap, subst, ℕ, ◌≤◌, List, [], length, Option, Some, None, map}
+use Rattle.std.proofs.Common.{◌≡◌, refl, sym, ◌∙◌, ap, ℕ, ◌≤◌, List, [], length, Option, Some, None, map}
 use Rattle.std.specs.Prelude.{Bool, true, false, if◌then◌else◌, slice_get}
 use Rattle.sp_text.specs.declared.fault.Span.{Span}
 use Rattle.sp_tree.specs.declared.interface.InterfaceTree.{InterfaceTree}
@@ -11,14 +11,13 @@ use Rattle.sp_naming.specs.Declarations.{declarations}
 use Rattle.sp_naming.specs.Names.{named}
 use Rattle.sp_naming.specs.Visibility.{find_by, find_in, seen, sees}
 use Rattle.sp_naming.proofs.Meanings.{declared}
-use Rattle.sp_scopes.specs.declared.heads.Head.{Head}
 use Rattle.sp_scopes.specs.declared.lent.DeclaredType.{DeclaredType}
 use Rattle.sp_scopes.specs.Interfaces.{scopes_broken}
 use Rattle.sp_scopes.specs.Laws.{IsLent, LentAreFound}
 use Rattle.sp_scopes.specs.Modules.{limit_broken, over}
-use Rattle.sp_scopes.specs.Scopes.{entity_at, module_takes, scopes_of}
+use Rattle.sp_scopes.specs.Scopes.{module_takes, scopes_of}
 use Rattle.sp_scopes.proofs.Laws.{within_limits}
-use Rattle.sp_well_formed.proofs.Items.{few, makes_nothing, map_nothing, same_item, under_option}
+use Rattle.sp_well_formed.proofs.Items.{few, makes_nothing, map_nothing, under_option}
 
 pub seen_is : (k : ℕ) (names : List (List ℕ)) (o : Option Declaration) (d : Declaration) → seen k names o ≡ Some d → o ≡ Some d
 seen_is k names None d e = absurd cc

@@ -1,8 +1,7 @@
 -- The lists of what modules break, item by item: assertions and functions of all modules in one list, each with its module's number.
-use Rattle.std.proofs.Common.{◌≡◌, refl, sym, ◌∙◌, ap, subst, rules, arith, ℕ, zero, suc, ◌+◌, ◌≤◌, List, [], ◌∷◌, ◌++◌, Bool, true, false, Option, Some, None, length, map}
-use Rattle.std.specs.Prelude.{cond, min, nat_eq, slice_get, ◌==◌, if◌then◌else◌}
-use Rattle.std.specs.List.{All, find, flat_map}
-use Rattle.std.proofs.lemmas.List.Elements.{All-cons, All-nil}
+use Rattle.std.proofs.Common.{◌≡◌, refl, ap, subst, rules, arith, ℕ, suc, ◌+◌, ◌≤◌, List, [], ◌∷◌, ◌++◌, Bool, true, false, Option, Some, None, length, map}
+use Rattle.std.specs.Prelude.{cond, nat_eq, slice_get, ◌==◌, if◌then◌else◌}
+use Rattle.std.specs.List.{find}
 use Rattle.sp_text.specs.declared.fault.Quantity.TheVariants as quantity
 use Rattle.sp_text.specs.declared.fault.Span.{Span}
 use Rattle.sp_text.specs.declared.limits.TheConstants.{MOST_ASSERTIONS}
@@ -16,7 +15,6 @@ use Rattle.sp_plain.specs.Text.{span, text}
 use Rattle.sp_naming.specs.declared.declaration.Entity.{Entity}
 use Rattle.sp_naming.specs.declared.declaration.Entity.TheVariants as entity
 use Rattle.sp_naming.specs.Numbers.{after, counted, numbered}
-use Rattle.sp_scopes.specs.declared.heads.Head.{Head}
 use Rattle.sp_scopes.specs.declared.scopes.Scopes.{Scopes}
 use Rattle.sp_scopes.specs.Modules.{exceeds_at}
 use Rattle.sp_judge.specs.Visible.{Visible, function_at, see}

@@ -1,5 +1,5 @@
 -- The names of a specification differ: each finds what it names, and what it names stands at one place.
-use Rattle.std.proofs.Common.{◌≡◌, refl, sym, ◌∙◌, ap, subst, arith, ℕ, zero, suc, ◌+◌, List, [], ◌∷◌, ◌++◌, Option, Some, None, inl, inr, length, length-append, map, ⊎_elim}
+use Rattle.std.proofs.Common.{◌≡◌, refl, ap, subst, arith, ℕ, zero, suc, ◌+◌, List, [], ◌∷◌, ◌++◌, Option, Some, inl, inr, length, length-append, map, ⊎_elim}
 use Rattle.std.specs.Prelude.{slice_get, ◌⊎◌}
 use Rattle.std.specs.List.{flat_map}
 use Rattle.sp_core.specs.declared.function.Function.{Function}

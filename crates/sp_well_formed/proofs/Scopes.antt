@@ -1,5 +1,5 @@
 -- What names and headers declare that break nothing is in the signature.
-use Rattle.std.proofs.Common.{◌≡◌, refl, sym, ◌∙◌, ap, subst, arith, ℕ, suc, ◌≤◌, ◌<◌, List, [], ◌∷◌, Option, Some, None, length, map}
+use Rattle.std.proofs.Common.{◌≡◌, refl, sym, ◌∙◌, ap, subst, arith, ℕ, ◌<◌, List, [], ◌∷◌, Option, Some, None, length, map}
 use Rattle.std.specs.Prelude.{IsTrue, nat_lt, slice_get, true}
 use Rattle.std.proofs.lemmas.Bool.Decides.{nat_tests}
 use Rattle.std.proofs.lemmas.Option.{slice_get_within}
@@ -18,7 +18,6 @@ use Rattle.sp_scopes.specs.declared.heads.Local.{Local}
 use Rattle.sp_scopes.specs.declared.heads.Sort.{Sort}
 use Rattle.sp_scopes.specs.declared.heads.Sort.TheVariants as sort
 use Rattle.sp_scopes.specs.declared.lent.Definition.{Definition}
-use Rattle.sp_scopes.specs.declared.lent.DeclaredType.{DeclaredType}
 use Rattle.sp_scopes.specs.Interfaces.{scopes_broken}
 use Rattle.sp_scopes.specs.Laws.{FoundAreLent, IsLent}
 use Rattle.sp_scopes.specs.Scopes.{entity_at, scopes_of}
@@ -26,13 +25,13 @@ use Rattle.sp_judge.specs.declared.scope.Meaning.TheVariants as meaning_
 use Rattle.sp_judge.specs.Names.{shared_of, sort_type}
 use Rattle.sp_judge.specs.Visible.{definition_head}
 use Rattle.sp_order.specs.Orders.{AreEnds, level_count}
-use Rattle.sp_typed.specs.Fits.{any_type, AreTypes, IsAsked, IsFunctionHead, IsHead, IsMeant, IsParamHead, IsScopeOf}
+use Rattle.sp_typed.specs.Fits.{any_type, AreTypes, IsAsked, IsFunctionHead, IsHead, IsMeant}
 use Rattle.sp_specification.specs.Functions.{head_type}
 use Rattle.sp_specification.specs.Meaning.{param_of, type_info}
 use Rattle.sp_well_formed.proofs.Functions.{are_formals, formal_types}
 use Rattle.sp_well_formed.proofs.Headers.{IsFineHead, IsPlainHead, SortIn, TypeIn, TypesIn, definitions_fine, functions_fine, params_fine}
-use Rattle.sp_well_formed.proofs.Items.{map_length, map_under, no_item, under_map, under_option}
-use Rattle.sp_well_formed.proofs.Definitions.{AreScopes, sees}
+use Rattle.sp_well_formed.proofs.Items.{map_length, map_under, no_item, under_map}
+use Rattle.sp_well_formed.proofs.Definitions.{AreScopes}
 
 below : (k n : ℕ) → k < n → nat_lt k n ≡ true
 below k n h = grind (arith, nat_tests)
@@ -88,9 +87,10 @@ module _ (lent : FoundAreLent) (i : InterfaceTree) (ms : List Module) (none : sc
       let at = l.1.1.0 in
       let is = l.1.1.1.0 in
       let there = ap (λ z. slice_get z t) has.types ∙ map_under type_info (scopes_of i ms).types t d at in
-      let members : declared_members (slice_get sg.types t) ≡ length names = ap declared_members there ∙ ap (λ m. declared_members (Some (record { name = d.name; members = m }))) is in
-      (below t (length sg.types) (omega (arith, slice_get_within (scopes_of i ms).types t d at, types_count)),
-      below k (declared_members (slice_get sg.types t)) (omega (arith, slice_get_within names k x l.1.1.1.1, members)))
+      let members : declared_members (slice_get sg.types t) ≡ length names = ap declared_members there ∙ ap (λ m. declared_members (Some (record { name = d.name; members = m }))) is in (
+        below t (length sg.types) (omega (arith, slice_get_within (scopes_of i ms).types t d at, types_count)),
+        below k (declared_members (slice_get sg.types t)) (omega (arith, slice_get_within names k x l.1.1.1.1, members)),
+      )
   lent_meant x (entity.Param k) l = tt
   lent_meant x (entity.Definition k) l = tt
   lent_meant x (entity.Function k) l = tt
@@ -131,8 +131,8 @@ module _ (lent : FoundAreLent) (i : InterfaceTree) (ms : List Module) (none : sc
       function_heads = λ k h at. head_of_in h (functions_fine lent i ms none k h at);
       definition_heads = λ k h at. headed k (slice_get (scopes_of i ms).definitions k) h refl at;
       params = λ k h at.
-        let p = plain_sort h (params_fine lent i ms none k h at) in
-        (param_of h, ap (λ z. slice_get z k) has.params ∙ map_under param_of (scopes_of i ms).parameters k h at, record { formals = formal_types h.formals; result = plain_type h p.0 p.1 });
+          let p = plain_sort h (params_fine lent i ms none k h at) in
+          (param_of h, ap (λ z. slice_get z k) has.params ∙ map_under param_of (scopes_of i ms).parameters k h at, record { formals = formal_types h.formals; result = plain_type h p.0 p.1 });
       functions = has.functions;
       definitions = λ k h e t at core. no_item k e core;
     },

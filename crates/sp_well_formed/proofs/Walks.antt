@@ -1,13 +1,12 @@
 -- All functions of a specification, one after the other: each is well-formed, with the depths of those before it.
-use Rattle.std.proofs.Common.{◌≡◌, refl, sym, ◌∙◌, ap, subst, rules, arith, ℕ, zero, suc, ◌+◌, ◌≤◌, ◌<◌, List, [], ◌∷◌, ◌++◌, Option, Some, None, length, length-append, map}
-use Rattle.std.specs.Prelude.{if◌then◌else◌, min, nat_lt, slice_get}
+use Rattle.std.proofs.Common.{◌≡◌, refl, sym, ◌∙◌, ap, subst, rules, arith, ℕ, zero, suc, ◌+◌, ◌≤◌, List, [], ◌∷◌, ◌++◌, Option, Some, None, length, length-append, map}
+use Rattle.std.specs.Prelude.{if◌then◌else◌, nat_lt, slice_get}
 use Rattle.std.specs.List.{All, flat_map}
 use Rattle.sp_text.specs.declared.fault.Quantity.TheVariants as quantity
-use Rattle.sp_text.specs.declared.fault.Rule.TheVariants as rule
 use Rattle.sp_text.specs.declared.fault.Span.{Span}
-use Rattle.sp_text.specs.declared.limits.TheConstants.{MOST_DERIVATION_DEPTH, MOST_FUNCTION_NODES}
+use Rattle.sp_text.specs.declared.limits.TheConstants.{MOST_FUNCTION_NODES}
 use Rattle.sp_text.specs.Firsts.{behind}
-use Rattle.sp_text.specs.Violations.{breaks, exceeds}
+use Rattle.sp_text.specs.Violations.{exceeds}
 use Rattle.sp_tree.specs.declared.interface.Equation.{Equation}
 use Rattle.sp_tree.specs.declared.module.Body.{Body}
 use Rattle.sp_tree.specs.declared.module.Body.TheVariants as body
@@ -22,15 +21,15 @@ use Rattle.sp_core.specs.Tree.{tree}
 use Rattle.sp_core.specs.Typing.{Signature}
 use Rattle.sp_core.specs.WellFormed.{IsEarlier, IsFunction, IsLevel}
 use Rattle.sp_plain.specs.Text.{text}
-use Rattle.sp_naming.specs.Numbers.{after, counted}
+use Rattle.sp_naming.specs.Numbers.{after}
 use Rattle.sp_scopes.specs.declared.heads.Head.{Head}
 use Rattle.sp_judge.specs.Visible.{Visible, function_at}
 use Rattle.sp_typed.specs.Fits.{AreTypes, IsAsked, IsFunctionHead, any_type, kind_sort, types}
-use Rattle.sp_typed.proofs.Fitting.{append_left, append_right, behind_inner, behind_own}
+use Rattle.sp_typed.proofs.Fitting.{append_right, behind_inner, behind_own}
 use Rattle.sp_functions.specs.Depths.{derived_depth}
 use Rattle.sp_functions.specs.Equations.{equation_broken, equation_name, equations_broken}
 use Rattle.sp_functions.specs.Exceptions.{exceptions_broken}
-use Rattle.sp_functions.specs.Judged.{derivation_broken, made}
+use Rattle.sp_functions.specs.Judged.{derivation_broken}
 use Rattle.sp_functions.specs.Laws.{IsSeenBy}
 use Rattle.sp_naming.specs.Names.{repeated_names}
 use Rattle.sp_specification.specs.Bodies.{headed_broken, headed_depth, next_head, next_number}
@@ -151,13 +150,13 @@ sized s t o e x h q i j fine = sym (λ k. level_broken s t (i k) x (j k)) ∙ fi
 -- All functions
 
 module _ (sg : Signature) (sees : ℕ → Visible) (t : Visible) (seen : (k : ℕ) → IsSeenBy sg (sees k)) (whole : IsSeenBy sg t)
-  (heads : (k g : ℕ) → function_at (sees k) g ≡ function_at t g)
-  (types_there : (g : ℕ) (h : Head) → function_at t g ≡ Some h → AreTypes sg h.formals × IsAsked sg (any_type h.sort) × (length h.formals ≤ 8))
-  (qs : List Equation) (equations : equations_broken t qs ≡ []) (numbers : All IsEquationNumbered qs) where
+    (heads : (k g : ℕ) → function_at (sees k) g ≡ function_at t g)
+    (types_there : (g : ℕ) (h : Head) → function_at t g ≡ Some h → AreTypes sg h.formals × IsAsked sg (any_type h.sort) × (length h.formals ≤ 8))
+    (qs : List Equation) (equations : equations_broken t qs ≡ []) (numbers : All IsEquationNumbered qs) where
   -- the next function
   module _ (before : List ℕ) (x : ℕ × FunDecl) (f : Function) (p : IsPlacedFunction (sees x.0) t (function_at t (length before)) (equation_of t qs (length before)) x.1 f)
-    (fine : headed_broken (sees x.0) before (next_head (sees x.0) before) x.1 ≡ []) (level : level_broken (sees x.0) t (function_at (sees x.0) (length before)) x.1 (equation_of t qs (length before)) ≡ [])
-    (known : AreDepths sg.functions before) (at : slice_get sg.functions (length before) ≡ Some f) (m : IsFunctionNumbered x.1) (small : length before ≤ 512) where
+      (fine : headed_broken (sees x.0) before (next_head (sees x.0) before) x.1 ≡ []) (level : level_broken (sees x.0) t (function_at (sees x.0) (length before)) x.1 (equation_of t qs (length before)) ≡ [])
+      (known : AreDepths sg.functions before) (at : slice_get sg.functions (length before) ≡ Some f) (m : IsFunctionNumbered x.1) (small : length before ≤ 512) where
     number : next_number before ≡ length before
     number = omega (arith, small)
 

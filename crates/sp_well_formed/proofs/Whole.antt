@@ -1,5 +1,5 @@
 -- A specification that is meant by texts that break nothing is well-formed.
-use Rattle.std.proofs.Common.{◌≡◌, refl, sym, ◌∙◌, ap, subst, arith, ℕ, zero, suc, ◌+◌, ◌≤◌, List, [], ◌∷◌, ◌++◌, Option, Some, None, length, map}
+use Rattle.std.proofs.Common.{◌≡◌, refl, sym, ◌∙◌, ap, subst, arith, ℕ, suc, ◌+◌, ◌≤◌, List, [], ◌∷◌, Option, Some, None, length, map}
 use Rattle.std.specs.Prelude.{slice_get}
 use Rattle.std.specs.List.{All, flat_map}
 use Rattle.std.proofs.lemmas.List.Elements.{All-cons, All-nil}
@@ -20,21 +20,18 @@ use Rattle.sp_core.specs.declared.function.Param.{Param}
 use Rattle.sp_core.specs.declared.function.TypeInfo.{TypeInfo}
 use Rattle.sp_core.specs.Parts.{Parts, signature}
 use Rattle.sp_core.specs.Typing.{Signature}
-use Rattle.sp_core.specs.WellFormed.{AreDifferent, IsAssertion, IsFunction, IsParam, IsWellFormed, members_of, names_of}
+use Rattle.sp_core.specs.WellFormed.{IsAssertion, IsFunction, IsParam, IsWellFormed, members_of}
 use Rattle.sp_plain.specs.Text.{text}
-use Rattle.sp_naming.specs.declared.declaration.Declaration.{Declaration}
-use Rattle.sp_naming.specs.declared.declaration.Entity.{Entity}
 use Rattle.sp_naming.specs.declared.declaration.Entity.TheVariants as entity
 use Rattle.sp_naming.specs.Declarations.{declarations}
 use Rattle.sp_naming.specs.Levels.{level_declarations}
 use Rattle.sp_naming.specs.Numbers.{after, counted, numbered}
 use Rattle.sp_scopes.specs.declared.heads.Head.{Head}
-use Rattle.sp_scopes.specs.declared.lent.Definition.{Definition}
 use Rattle.sp_scopes.specs.declared.lent.DeclaredType.{DeclaredType}
 use Rattle.sp_scopes.specs.declared.scopes.Scopes.{Scopes}
 use Rattle.sp_scopes.specs.Heads.{function_head, function_heads, sight}
 use Rattle.sp_scopes.specs.Interfaces.{scopes_broken}
-use Rattle.sp_scopes.specs.Laws.{FoundAreLent, IsLent, LentAreFound}
+use Rattle.sp_scopes.specs.Laws.{FoundAreLent, LentAreFound}
 use Rattle.sp_scopes.specs.Lent.{declared_level, level_names, level_order}
 use Rattle.sp_scopes.specs.Scopes.{entity_at, scopes_of}
 use Rattle.sp_order.specs.Orders.{AreEnds, HasLevels, count_of, level_count}
@@ -132,8 +129,8 @@ numbers_of {A} its Q ms all each make is k x at =
 -- The whole
 
 module _ (lent : FoundAreLent) (found : LentAreFound) (i : InterfaceTree) (ms : List Module) (bottom top : ℕ) (p : Parts) (none : scopes_broken i ms ≡ [])
-  (levels : HasLevels (scopes_of i ms)) (ends : AreEnds (scopes_of i ms) bottom top) (ordered : IsLatticeOrder p.lattice) (numbers : AreAllNumbered (scopes_of i ms).definitions i.levels ms)
-  (rest : rest_broken i ms bottom top ≡ []) (meant : IsMeant (scopes_of i ms) bottom top i ms p) where
+    (levels : HasLevels (scopes_of i ms)) (ends : AreEnds (scopes_of i ms) bottom top) (ordered : IsLatticeOrder p.lattice) (numbers : AreAllNumbered (scopes_of i ms).definitions i.levels ms)
+    (rest : rest_broken i ms bottom top ≡ []) (meant : IsMeant (scopes_of i ms) bottom top i ms p) where
   abbrev s : Scopes
   s = scopes_of i ms
 
@@ -205,28 +202,28 @@ module _ (lent : FoundAreLent) (found : LentAreFound) (i : InterfaceTree) (ms : 
   seen : (k : ℕ) → IsSeenBy sg (sees k)
   seen k =
       let w = all_defined sg s bottom top (definitions_plain lent i ms none sg has) (λ j d at. of_all IsDefinitionNumbered s.definitions numbers.definitions j d at) definitions_none
-          (first_scopes lent i ms none sg has bottom top ends) k in
+      (first_scopes lent i ms none sg has bottom top ends) k in
       record { scope = w.0; fresh = w.1; functions = functions_count }
 
   -- names
   names_found : AreFound (entity_at s (length ms)) p
   names_found = record {
     types = λ t info at.
-      let r = under_map type_info s.types t info (ap (λ z. slice_get z t) (sym meant.types) ∙ at) in
-      subst (λ (z : TypeInfo). entity_at s (length ms) z.name ≡ Some (entity.Declared t)) r.2 (found i ms none r.0.name (entity.Declared t) (r.0, (r.1, refl)));
+        let r = under_map type_info s.types t info (ap (λ z. slice_get z t) (sym meant.types) ∙ at) in
+        subst (λ (z : TypeInfo). entity_at s (length ms) z.name ≡ Some (entity.Declared t)) r.2 (found i ms none r.0.name (entity.Declared t) (r.0, (r.1, refl)));
     members = λ t k info x at in_it.
-      let r = under_map type_info s.types t info (ap (λ z. slice_get z t) (sym meant.types) ∙ at) in
-      members_at (λ j y. entity_at s (length ms) y ≡ Some (entity.Member t j)) r.0 k x (λ xs is e. found i ms none x (entity.Member t k) (r.0, (xs, (r.1, (is, e)))))
-      (ap (λ (z : TypeInfo). slice_get (members_of z) k) r.2 ∙ in_it);
+        let r = under_map type_info s.types t info (ap (λ z. slice_get z t) (sym meant.types) ∙ at) in
+        members_at (λ j y. entity_at s (length ms) y ≡ Some (entity.Member t j)) r.0 k x (λ xs is e. found i ms none x (entity.Member t k) (r.0, (xs, (r.1, (is, e)))))
+        (ap (λ (z : TypeInfo). slice_get (members_of z) k) r.2 ∙ in_it);
     params = λ k q at.
-      let r = under_map param_of s.parameters k q (ap (λ z. slice_get z k) (sym meant.params) ∙ at) in
-      subst (λ (z : Param). entity_at s (length ms) z.name ≡ Some (entity.Param k)) r.2 (found i ms none r.0.name (entity.Param k) (r.0, (r.1, refl)));
+        let r = under_map param_of s.parameters k q (ap (λ z. slice_get z k) (sym meant.params) ∙ at) in
+        subst (λ (z : Param). entity_at s (length ms) z.name ≡ Some (entity.Param k)) r.2 (found i ms none r.0.name (entity.Param k) (r.0, (r.1, refl)));
     functions = λ k f at.
-      let lt = slice_get_within p.functions k f at in
-      let r = function_of k (omega (arith, lt, functions_count)) in
-      let same = same_item r.1 f (sym r.2 ∙ at) in
-      subst (λ (z : Function). entity_at s (length ms) z.name ≡ Some (entity.Function k)) same
-      (subst (λ y. entity_at s (length ms) y ≡ Some (entity.Function k)) (sym r.3.is.name) (found i ms none r.3.head.name (entity.Function k) (r.3.head, (r.3.has_head, refl))));
+        let lt = slice_get_within p.functions k f at in
+        let r = function_of k (omega (arith, lt, functions_count)) in
+        let same = same_item r.1 f (sym r.2 ∙ at) in
+        subst (λ (z : Function). entity_at s (length ms) z.name ≡ Some (entity.Function k)) same
+        (subst (λ y. entity_at s (length ms) y ≡ Some (entity.Function k)) (sym r.3.is.name) (found i ms none r.3.head.name (entity.Function k) (r.3.head, (r.3.has_head, refl))));
     levels = λ k x at. found i ms none x (entity.Level k) (ap (λ z. slice_get z k) (sym meant.level_names) ∙ at);
   }
 
@@ -260,13 +257,13 @@ module _ (lent : FoundAreLent) (found : LentAreFound) (i : InterfaceTree) (ms : 
         names = names_differ (entity_at s (length ms)) p names_found;
         few_types = omega (arith, few_types found i ms none, ap length meant.types ∙ map_length type_info s.types);
         few_members = all_of (λ info. length (members_of info) ≤ 64) p.types (λ t info at.
-          let r = under_map type_info s.types t info (ap (λ z. slice_get z t) (sym meant.types) ∙ at) in
-          subst (λ (z : TypeInfo). length (members_of z) ≤ 64) r.2 (members_few r.0 (λ xs is. few_members found i ms none t r.0 xs r.1 is)));
+            let r = under_map type_info s.types t info (ap (λ z. slice_get z t) (sym meant.types) ∙ at) in
+            subst (λ (z : TypeInfo). length (members_of z) ≤ 64) r.2 (members_few r.0 (λ xs is. few_members found i ms none t r.0 xs r.1 is)));
         few_params = omega (arith, few_params found i ms none, ap length meant.params ∙ map_length param_of s.parameters);
         few_assertions = assertions_few;
         few_functions = omega (arith, few_functions found i ms none, functions_count);
         params = all_of (IsParam sg) p.params (params_formed lent i ms none sg has);
         assertions = assertions_formed sg sees seen 0 (assertion_texts ms) p.assertions meant.assertions (all_assertions s bottom top 0 0 [] ms low modules_none)
-          (numbers_of (λ (m : Module). m.assertions) IsNumbered ms numbers.modules (λ m n. n.assertions) numbered_assertions (λ n m. refl));
+            (numbers_of (λ (m : Module). m.assertions) IsNumbered ms numbers.modules (λ m n. n.assertions) numbered_assertions (λ n m. refl));
         functions = functions_formed;
       }

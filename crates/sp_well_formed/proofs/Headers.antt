@@ -3,7 +3,6 @@ use Rattle.std.proofs.Common.{◌≡◌, refl, sym, ◌∙◌, ap, subst, arith,
 use Rattle.std.specs.Prelude.{true, IsTrue, nat_lt, slice_get}
 use Rattle.std.specs.List.{flat_map}
 use Rattle.std.specs.Option.{option_map}
-use Rattle.std.proofs.lemmas.Bool.Decides.{nat_tests}
 use Rattle.std.proofs.lemmas.Option.{slice_get_past, slice_get_within}
 use Rattle.sp_text.specs.declared.fault.Quantity.{Quantity}
 use Rattle.sp_text.specs.declared.fault.Quantity.TheVariants as quantity
@@ -42,7 +41,7 @@ use Rattle.sp_scopes.specs.Lent.{definition_of, module_definitions}
 use Rattle.sp_scopes.specs.Modules.{definition_broken, file_broken, function_broken, headers_broken, module_broken, own_name, row_broken}
 use Rattle.sp_scopes.specs.Scopes.{module_takes, scopes_of}
 use Rattle.sp_scopes.proofs.Laws.{modules_fine}
-use Rattle.sp_well_formed.proofs.Items.{OfParts, Placed, left_nothing, made_placed, makes_nothing, map_length, map_nothing, nothing_of_parts, of_placed, placed, right_nothing, under_map}
+use Rattle.sp_well_formed.proofs.Items.{OfParts, Placed, below, left_nothing, made_placed, makes_nothing, map_length, map_nothing, nothing_of_parts, of_placed, placed, right_nothing, under_map}
 use Rattle.sp_well_formed.proofs.Limits.{seen_is}
 
 -- a type of which n are declared
@@ -78,9 +77,6 @@ past_few n q xs h = by xs n h
     by [] m h = omega arith
     by (y ∷ ys) zero h = cc
     by (y ∷ ys) (suc m) h = omega (arith, by ys m h)
-
-below : (k n : ℕ) → suc k ≤ n → nat_lt k n ≡ true
-below k n h = grind (arith, nat_tests)
 
 module _ (lent : FoundAreLent) (i : InterfaceTree) (ms : List Module) (h : scopes_broken i ms ≡ []) where
   abbrev all : List Declaration

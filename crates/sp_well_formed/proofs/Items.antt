@@ -1,8 +1,9 @@
 -- Items of lists, and lists that are made of parts' items.
 use Rattle.std.proofs.Common.{◌≡◌, refl, sym, ◌∙◌, ap, subst, arith, ℕ, zero, suc, ◌+◌, ◌≤◌, ◌<◌, List, [], ◌∷◌, ◌++◌, length, length-append, Option, Some, None, map}
-use Rattle.std.specs.Prelude.{slice_get}
+use Rattle.std.specs.Prelude.{nat_lt, slice_get, true}
 use Rattle.std.specs.List.{All, flat_map}
 use Rattle.std.specs.Option.{option_map}
+use Rattle.std.proofs.lemmas.Bool.Decides.{nat_tests}
 use Rattle.std.proofs.lemmas.Grind.{flat_map-append}
 use Rattle.std.proofs.lemmas.List.Elements.{All-cons, All-nil}
 use Rattle.std.proofs.lemmas.Option.{get_or_from_slice_get, slice_get_within}
@@ -24,6 +25,9 @@ no_item {X} {C} k x e = absurd (none k e)
 
 pub not_none : {X C : Type 0} (x : X) → None ≡ Some x → C
 not_none x e = absurd cc
+
+pub below : (k n : ℕ) → k < n → nat_lt k n ≡ true
+below k n h = grind (arith, nat_tests)
 
 pub item_at : {X : Type 0} (xs : List X) (k : ℕ) → k < length xs → (x : X) × (slice_get xs k ≡ Some x)
 item_at [] k lt = absurd (omega (arith, lt))

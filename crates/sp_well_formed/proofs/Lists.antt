@@ -22,9 +22,9 @@ use Rattle.sp_elaborate.specs.Views.{view}
 use Rattle.sp_functions.specs.Assertions.{assertion_broken}
 use Rattle.sp_functions.specs.Equations.{head_named, head_of}
 use Rattle.sp_specification.specs.Bodies.{assertions_broken, depths_after, functions_broken, headed_broken, headed_depth, module_broken, next_head}
-use Rattle.sp_specification.specs.Bodies as bodies
+use Rattle.sp_specification.specs.Bodies as second
 use Rattle.sp_specification.specs.Ends.{equation_of, is_function, is_of, level_broken, levels_broken}
-use Rattle.sp_specification.specs.Ends as ends
+use Rattle.sp_specification.specs.Ends as third
 use Rattle.sp_specification.specs.Meaning.{numbered_assertions, numbered_functions}
 use Rattle.sp_well_formed.proofs.Items.{left_nothing, map_nothing, not_none, right_nothing, same_item}
 
@@ -89,14 +89,14 @@ module _ (s : Scopes) (bottom top : ℕ) where
   abbrev pub sees_of : ℕ → Visible
   sees_of k = view s k bottom top
 
-  module _ (k a : ℕ) (before : List ℕ) (m : Module) (ms : List Module) (h : bodies.modules_broken s bottom top k a before (m ∷ ms) ≡ []) where
+  module _ (k a : ℕ) (before : List ℕ) (m : Module) (ms : List Module) (h : second.modules_broken s bottom top k a before (m ∷ ms) ≡ []) where
     abbrev here : List Violation
     here = module_broken (view s k bottom top) a before m
 
     first_fine : here ≡ []
     first_fine =
         map_nothing (λ v. record { file = counted 1 k; violation = v }) here
-        (left_nothing (in_file (counted 1 k) here) (bodies.modules_broken s bottom top (after k) (counted a (length m.assertions)) (depths_after (view s k bottom top) before m.functions) ms) h)
+        (left_nothing (in_file (counted 1 k) here) (second.modules_broken s bottom top (after k) (counted a (length m.assertions)) (depths_after (view s k bottom top) before m.functions) ms) h)
 
     first_assertions : assertions_broken (view s k bottom top) a m.assertions ≡ []
     first_assertions = left_nothing (assertions_broken (view s k bottom top) a m.assertions) (functions_broken (view s k bottom top) before m.functions) first_fine
@@ -104,27 +104,27 @@ module _ (s : Scopes) (bottom top : ℕ) where
     first_functions : functions_broken (view s k bottom top) before m.functions ≡ []
     first_functions = right_nothing (assertions_broken (view s k bottom top) a m.assertions) (functions_broken (view s k bottom top) before m.functions) first_fine
 
-    others_fine : bodies.modules_broken s bottom top (after k) (counted a (length m.assertions)) (depths_after (view s k bottom top) before m.functions) ms ≡ []
-    others_fine = right_nothing (in_file (counted 1 k) here) (bodies.modules_broken s bottom top (after k) (counted a (length m.assertions)) (depths_after (view s k bottom top) before m.functions) ms) h
+    others_fine : second.modules_broken s bottom top (after k) (counted a (length m.assertions)) (depths_after (view s k bottom top) before m.functions) ms ≡ []
+    others_fine = right_nothing (in_file (counted 1 k) here) (second.modules_broken s bottom top (after k) (counted a (length m.assertions)) (depths_after (view s k bottom top) before m.functions) ms) h
 
-  pub all_assertions : (k a : ℕ) (before : List ℕ) (ms : List Module) → a ≤ 65535 → bodies.modules_broken s bottom top k a before ms ≡ [] → AssertionsFine sees_of a (numbered numbered_assertions k ms)
+  pub all_assertions : (k a : ℕ) (before : List ℕ) (ms : List Module) → a ≤ 65535 → second.modules_broken s bottom top k a before ms ≡ [] → AssertionsFine sees_of a (numbered numbered_assertions k ms)
   all_assertions k a before [] small h = tt
   all_assertions k a before (m ∷ ms) small h =
       let low : counted a (length m.assertions) ≤ 65535 = omega arith in
       join_assertions sees_of k a m.assertions (numbered numbered_assertions (after k) ms) small (first_assertions k a before m ms h)
       (all_assertions (after k) (counted a (length m.assertions)) (depths_after (view s k bottom top) before m.functions) ms low (others_fine k a before m ms h))
 
-  pub all_functions : (k a : ℕ) (before : List ℕ) (ms : List Module) → bodies.modules_broken s bottom top k a before ms ≡ [] → FunctionsFine sees_of before (numbered numbered_functions k ms)
+  pub all_functions : (k a : ℕ) (before : List ℕ) (ms : List Module) → second.modules_broken s bottom top k a before ms ≡ [] → FunctionsFine sees_of before (numbered numbered_functions k ms)
   all_functions k a before [] h = tt
   all_functions k a before (m ∷ ms) h =
       join_functions sees_of k before m.functions (numbered numbered_functions (after k) ms) (first_functions k a before m ms h)
       (all_functions (after k) (counted a (length m.assertions)) (depths_after (view s k bottom top) before m.functions) ms (others_fine k a before m ms h))
 
-  pub all_levels : (t : Visible) (qs : List Equation) (k g : ℕ) (ms : List Module) → g ≤ 65535 → ends.modules_broken s bottom top t qs k g ms ≡ [] → LevelsFine sees_of t qs g (numbered numbered_functions k ms)
+  pub all_levels : (t : Visible) (qs : List Equation) (k g : ℕ) (ms : List Module) → g ≤ 65535 → third.modules_broken s bottom top t qs k g ms ≡ [] → LevelsFine sees_of t qs g (numbered numbered_functions k ms)
   all_levels t qs k g [] small h = tt
   all_levels t qs k g (m ∷ ms) small h =
       let here = levels_broken (view s k bottom top) t qs g m.functions in
-      let others = ends.modules_broken s bottom top t qs (after k) (counted g (length m.functions)) ms in
+      let others = third.modules_broken s bottom top t qs (after k) (counted g (length m.functions)) ms in
       let low : counted g (length m.functions) ≤ 65535 = omega arith in
       join_levels sees_of t qs k g m.functions (numbered numbered_functions (after k) ms) small (map_nothing (λ v. record { file = counted 1 k; violation = v }) here (left_nothing (in_file (counted 1 k) here) others h))
       (all_levels t qs (after k) (counted g (length m.functions)) ms low (right_nothing (in_file (counted 1 k) here) others h))

@@ -1,5 +1,5 @@
 -- The names of a specification differ: each finds what it names, and what it names stands at one place.
-use Rattle.std.proofs.Common.{◌≡◌, refl, ap, subst, arith, ℕ, zero, suc, ◌+◌, List, [], ◌∷◌, ◌++◌, Option, Some, inl, inr, length, length-append, map, ⊎_elim}
+use Rattle.std.proofs.Common.{◌≡◌, refl, sym, ◌∙◌, ap, subst, arith, ℕ, zero, suc, ◌+◌, List, [], ◌∷◌, ◌++◌, Option, Some, inl, inr, length, length-append, map, ⊎_elim}
 use Rattle.std.specs.Prelude.{slice_get, ◌⊎◌}
 use Rattle.std.specs.List.{flat_map}
 use Rattle.sp_core.specs.declared.function.Function.{Function}
@@ -72,13 +72,16 @@ module _ (see : List ℕ → Option Entity) (p : Parts) where
   abbrev function_names : List (List ℕ)
   function_names = map (λ (f : Function). f.name) p.functions
 
+  one_place : (d e : Entity) (n m : ℕ) → place_of p d ≡ n → place_of p e ≡ m → d ≡ e → n ≡ m
+  one_place d e n m h k same = sym h ∙ ap (place_of p) same ∙ k
+
   -- parts whose names find them have different names
   pub names_differ : AreFound see p → AreDifferent (names_of p)
   names_differ h i j x e f =
       let a = all i x e in
       let b = all j x f in
-      let same : a.0 ≡ b.0 = same_get a.0 b.0 (see x) a.1 b.1 in
-      omega (arith, a.2, b.2, ap (place_of p) same)
+      let places = one_place a.0 b.0 (0 + i) (0 + j) a.2 b.2 (same_get a.0 b.0 (see x) a.1 b.1) in
+      omega (arith, places)
     where
       types : FindFrom 0 type_names
       types i x e = let m = under_map (λ (i : TypeInfo). i.name) p.types i x e in (entity.Declared i, subst (λ z. see z ≡ Some (entity.Declared i)) m.2 (h.types i m.0 m.1), omega arith)

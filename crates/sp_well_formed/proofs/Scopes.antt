@@ -1,7 +1,6 @@
 -- What names and headers declare that break nothing is in the signature.
 use Rattle.std.proofs.Common.{◌≡◌, refl, sym, ◌∙◌, ap, subst, arith, ℕ, ◌<◌, List, [], ◌∷◌, Option, Some, None, length, map}
 use Rattle.std.specs.Prelude.{IsTrue, nat_lt, slice_get, true}
-use Rattle.std.proofs.lemmas.Bool.Decides.{nat_tests}
 use Rattle.std.proofs.lemmas.Option.{slice_get_within}
 use Rattle.sp_values.specs.declared.value.Ty.{Ty}
 use Rattle.sp_values.specs.declared.value.Ty.TheVariants as ty
@@ -30,11 +29,8 @@ use Rattle.sp_specification.specs.Functions.{head_type}
 use Rattle.sp_specification.specs.Meaning.{param_of, type_info}
 use Rattle.sp_well_formed.proofs.Functions.{are_formals, formal_types}
 use Rattle.sp_well_formed.proofs.Headers.{IsFineHead, IsPlainHead, SortIn, TypeIn, TypesIn, definitions_fine, functions_fine, params_fine}
-use Rattle.sp_well_formed.proofs.Items.{map_length, map_under, no_item, under_map}
+use Rattle.sp_well_formed.proofs.Items.{below, map_length, map_under, no_item, under_map}
 use Rattle.sp_well_formed.proofs.Definitions.{AreScopes}
-
-below : (k n : ℕ) → k < n → nat_lt k n ≡ true
-below k n h = grind (arith, nat_tests)
 
 -- a signature that has all that is declared
 pub record HasAll (i : InterfaceTree) (ms : List Module) (sg : Signature) : Type 0 where

@@ -43,10 +43,10 @@ use Rattle.sp_functions.specs.Equations.{equations_broken}
 use Rattle.sp_functions.specs.Laws.{IsSeenBy}
 use Rattle.sp_functions.proofs.Asserted.{assertion}
 use Rattle.sp_specification.specs.Bodies.{bodies_broken}
-use Rattle.sp_specification.specs.Bodies as bodies
+use Rattle.sp_specification.specs.Bodies as second
 use Rattle.sp_specification.specs.Broken.{rest_broken}
 use Rattle.sp_specification.specs.Ends.{ends_broken, equation_of, whole_view}
-use Rattle.sp_specification.specs.Ends as ends_
+use Rattle.sp_specification.specs.Ends as third
 use Rattle.sp_specification.specs.Meaning.{AreAssertions, IsMeant, assertion_texts, function_texts, numbered_assertions, numbered_functions, param_of, type_info}
 use Rattle.sp_specification.specs.Numbers.{AreAllNumbered, IsDefinitionNumbered, IsFunctionNumbered, IsModuleNumbered, IsNumbered}
 use Rattle.sp_well_formed.proofs.Definitions.{all_defined}
@@ -151,18 +151,18 @@ module _ (lent : FoundAreLent) (found : LentAreFound) (i : InterfaceTree) (ms : 
   ends_none = own_nothing (bodies_broken s bottom top ms) (ends_broken s bottom top i ms) rest
 
   definitions_none : definitions_broken (view s 0 bottom top) 0 s.definitions ≡ []
-  definitions_none = left_nothing (definitions_broken (view s 0 bottom top) 0 s.definitions) (bodies.modules_broken s bottom top 0 0 [] ms) bodies_none
+  definitions_none = left_nothing (definitions_broken (view s 0 bottom top) 0 s.definitions) (second.modules_broken s bottom top 0 0 [] ms) bodies_none
 
-  modules_none : bodies.modules_broken s bottom top 0 0 [] ms ≡ []
-  modules_none = right_nothing (definitions_broken (view s 0 bottom top) 0 s.definitions) (bodies.modules_broken s bottom top 0 0 [] ms) bodies_none
+  modules_none : second.modules_broken s bottom top 0 0 [] ms ≡ []
+  modules_none = right_nothing (definitions_broken (view s 0 bottom top) 0 s.definitions) (second.modules_broken s bottom top 0 0 [] ms) bodies_none
 
   equations_none : equations_broken whole i.levels ≡ []
   equations_none =
       map_nothing (λ v. record { file = 0; violation = v }) (equations_broken whole i.levels)
-      (left_nothing (in_file 0 (equations_broken whole i.levels)) (ends_.modules_broken s bottom top whole i.levels 0 0 ms) ends_none)
+      (left_nothing (in_file 0 (equations_broken whole i.levels)) (third.modules_broken s bottom top whole i.levels 0 0 ms) ends_none)
 
-  levels_none : ends_.modules_broken s bottom top whole i.levels 0 0 ms ≡ []
-  levels_none = right_nothing (in_file 0 (equations_broken whole i.levels)) (ends_.modules_broken s bottom top whole i.levels 0 0 ms) ends_none
+  levels_none : third.modules_broken s bottom top whole i.levels 0 0 ms ≡ []
+  levels_none = right_nothing (in_file 0 (equations_broken whole i.levels)) (third.modules_broken s bottom top whole i.levels 0 0 ms) ends_none
 
   -- as many functions as heads
   texts_count : length (function_texts ms) ≡ length s.functions
@@ -244,8 +244,8 @@ module _ (lent : FoundAreLent) (found : LentAreFound) (i : InterfaceTree) (ms : 
   assertions_few : length p.assertions ≤ 64
   assertions_few =
       let low : 0 ≤ 65535 = omega arith in
-      let none' : 0 ≤ 64 = omega arith in
-      let few = few_assertions sees 0 (assertion_texts ms) none' (all_assertions s bottom top 0 0 [] ms low modules_none) in
+      let start : 0 ≤ 64 = omega arith in
+      let few = few_assertions sees 0 (assertion_texts ms) start (all_assertions s bottom top 0 0 [] ms low modules_none) in
       omega (arith, few, assertions_length sees (assertion_texts ms) p.assertions meant.assertions)
 
   pub formed : IsWellFormed p

@@ -1,6 +1,6 @@
 -- What names and headers declare that break nothing is in the signature.
-use Rattle.std.proofs.Common.{◌≡◌, refl, sym, ◌∙◌, ap, subst, arith, ℕ, ◌<◌, List, [], ◌∷◌, Option, Some, None, length, map}
-use Rattle.std.specs.Prelude.{IsTrue, nat_lt, slice_get, true}
+use Rattle.std.proofs.Common.{◌≡◌, refl, sym, ◌∙◌, ap, subst, arith, ℕ, List, [], ◌∷◌, Option, Some, None, length, map}
+use Rattle.std.specs.Prelude.{IsTrue, nat_lt, slice_get}
 use Rattle.std.proofs.lemmas.Option.{slice_get_within}
 use Rattle.sp_values.specs.declared.value.Ty.{Ty}
 use Rattle.sp_values.specs.declared.value.Ty.TheVariants as ty

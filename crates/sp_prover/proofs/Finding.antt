@@ -12,7 +12,7 @@ use Rattle.sp_rules.specs.Clash.{IsFirstClash}
 use Rattle.sp_rules.specs.Facts.{has_truth, is_one_of}
 use Rattle.sp_rules.specs.Questions.{IsQuestion}
 use Rattle.sp_rules.specs.declared.fact.Fact.{Fact}
-use Rattle.sp_saturate.specs.Situations.{IsFollowing, Situation, supposed}
+use Rattle.sp_saturate.specs.Situations.{IsFollowing, Situation, assuming, supposed}
 use Rattle.sp_cert.specs.declared.cert.Cert.{Cert}
 use Rattle.sp_cert.specs.Checks.{fault}
 use Rattle.sp_cert.specs.Tree.{Tree, tree}
@@ -21,7 +21,7 @@ use Rattle.sp_prover.specs.declared.branch.Branch.{Branch}
 use Rattle.sp_prover.specs.declared.branch.DecideFault.{DecideFault}
 use Rattle.sp_prover.specs.declared.branch.DecideFault.TheVariants.{TooManyAtoms}
 use Rattle.sp_prover.specs.Deciding.{AreUndetermined, Decides, HasTruths, IsClashing, IsFirstOpen, IsProof, IsRefused, LeavesFew, LeavesUndetermined, SplitsUndetermined, no_fault, values_of}
-use Rattle.sp_prover.specs.Exploring.{Allows, Finds, IsClosed, IsFirst, IsFirstBranch, IsRefuted, IsSettled, assuming, atom_at, with_memory}
+use Rattle.sp_prover.specs.Exploring.{Allows, Finds, IsClosed, IsFirst, IsFirstBranch, IsRefuted, IsSettled, atom_at, with_memory}
 use Rattle.sp_prover.proofs.Cutting.{given_in}
 use Rattle.sp_prover.proofs.Firsts.{first_false, first_true}
 

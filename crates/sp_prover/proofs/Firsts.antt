@@ -17,14 +17,14 @@ use Rattle.sp_rules.specs.declared.fact.Step.{Step}
 use Rattle.sp_rules.proofs.FactLemmas.{first_holds, is_fact-itself, is_fact-true, is_one_of-append, is_one_of-cons, is_one_of-none, one_holds, or_false, second_holds}
 use Rattle.sp_rules.proofs.Steps.{follows_from, follows_more}
 use Rattle.sp_saturate.specs.Accepted.{AreAccepted, EndInClash}
-use Rattle.sp_saturate.specs.Situations.{IsFollowing, Situation, supposed}
+use Rattle.sp_saturate.specs.Situations.{IsFollowing, Situation, assuming, supposed}
 use Rattle.sp_cert.specs.Checks.{count_all, count_nodes, fault, next}
 use Rattle.sp_cert.specs.Tree.{Tree, Split, Leaf}
 use Rattle.sp_cert.specs.Within.{IsTree}
 use Rattle.sp_checker.specs.Known.{judge}
 use Rattle.sp_claims.specs.Laws.{IsOpenIn}
 use Rattle.sp_prover.specs.Deciding.{HasTruths, IsDetermined, SplitsUndetermined, no_fault}
-use Rattle.sp_prover.specs.Exploring.{Allows, IsClosed, IsFirst, IsRefuted, IsSettled, assuming, atom_at}
+use Rattle.sp_prover.specs.Exploring.{Allows, IsClosed, IsFirst, IsRefuted, IsSettled, atom_at}
 use Rattle.sp_prover.specs.Order.{IsNotAfter}
 use Rattle.sp_prover.proofs.Checking.{leaf_checks, split_checks}
 use Rattle.sp_prover.proofs.Cutting.{both_truths, forced, value_in}

@@ -7,9 +7,9 @@ use Rattle.sp_rules.specs.Facts.{has_truth}
 use Rattle.sp_rules.specs.Questions.{IsQuestion}
 use Rattle.sp_rules.specs.Terms.{Terms}
 use Rattle.sp_rules.specs.declared.fact.Fact.{Fact}
-use Rattle.sp_saturate.specs.Situations.{Situation, supposed}
+use Rattle.sp_saturate.specs.Situations.{Situation, assuming, supposed}
 use Rattle.sp_prover.specs.Deciding.{AreUndetermined, AreUndeterminedBelow, HasTruths, IsDetermined}
-use Rattle.sp_prover.specs.Exploring.{IsPrepared, IsSettled, assuming, atom_at}
+use Rattle.sp_prover.specs.Exploring.{IsPrepared, IsSettled, atom_at}
 use Rattle.sp_prover.proofs.Firsts.{assumed_settled, settled_below}
 
 below_or_above : (i m : ℕ) → (i < m) ⊎ ((i ≡ m) ⊎ (m < i))

@@ -23,10 +23,6 @@ use Rattle.sp_prover.specs.Order.{IsNotAfter}
 abbrev pub atom_at : Situation → ℕ → ℕ
 atom_at s a = slice_index s.question.atoms a
 
--- the same with the value of one more atom, by its index
-abbrev pub assuming : Situation → ℕ → Bool → Situation
-assuming s a b = record s { assumed = s.assumed ++ has_truth (atom_at s a) b ∷ [] }
-
 -- the truth value of an atom follows
 abbrev pub IsSettled : Situation → ℕ → Type 0
 IsSettled s a = IsDetermined s.question.terms (supposed s) (atom_at s a)

@@ -3,15 +3,15 @@
 ghost use Rattle.std.specs.Prelude.{◌≡◌, ℕ, ◌+◌, ◌<◌, ◌≤◌, ◌↔◌, true, false, IfOk, IsTrue, length, slice_index, slice_index_or};
 ghost use Rattle.sp_rules.specs.Facts.{has_truth};
 ghost use Rattle.sp_rules.specs.Questions.{IsQuestion};
-ghost use Rattle.sp_saturate.specs.Situations.{IsFollowing, supposed};
-ghost use Rattle.sp_cert.specs.Tree.{tree, Split};
+ghost use Rattle.sp_saturate.specs.Situations.{IsFollowing, assuming, supposed};
+ghost use Rattle.sp_cert.specs.Tree.{tree, Leaf, Split};
 ghost use Rattle.sp_prover.specs.Deciding.{AreUndetermined, AreUndeterminedBelow, HasTruths, IsDetermined};
-ghost use Rattle.sp_prover.specs.Exploring.{Finds, IsClosed, IsPrepared, IsSettled, assuming, atom_at};
+ghost use Rattle.sp_prover.specs.Exploring.{Finds, IsClosed, IsPrepared, IsSettled, atom_at};
 
 use crate::branch::Branch;
 use either::{Either, Left, Right};
 use sp_cert::Cert;
-use sp_rules::Fact;
+use sp_rules::{Fact, Step};
 use sp_saturate::Facts;
 use sp_text::{Memory, Sequence};
 use sqlite_items::Boxed;
@@ -111,6 +111,13 @@ fn truths(alloc: Global, facts: &Facts) -> Result<Vec<bool>, Memory>
     Ok(values)
 }
 
+/// The certificate that needs no split.
+fn unsplit(steps: Vec<Step>) -> Cert
+    ensures { tree result ≡ Leaf steps.items }
+{
+    Cert::Leaf(Sequence::new(steps))
+}
+
 /// The steps to a clash, as a certificate.
 pub fn leaf(alloc: Global, facts: &Facts) -> Result<Either<Cert, Branch>, Memory>
     requires clash { IsClosed facts.now }
@@ -119,7 +126,7 @@ pub fn leaf(alloc: Global, facts: &Facts) -> Result<Either<Cert, Branch>, Memory
     ensures { IfOk result (λ e. Finds facts.now e) }
 {
     let steps = facts.steps(alloc)?;
-    Ok(Left(Cert::Leaf(Sequence::new(steps))))
+    Ok(Left(unsplit(steps)))
 }
 
 /// The branch where each atom has the value that follows.
@@ -143,7 +150,8 @@ fn split(alloc: Global, atom: u16, first: Cert, second: Cert) -> Result<Cert, Me
     Ok(Cert::Split(atom as u32, first, second))
 }
 
-/// Searches below what is assumed, by the atoms at the places from one on. The facts are left as they were.
+/// Searches below what is assumed, without a clash, by the atoms at the places from one on. The facts are left as they
+/// were.
 #[cycle(exploring)]
 pub fn explore(
     alloc: Global,
@@ -151,13 +159,11 @@ pub fn explore(
     places: &[u16],
     at: usize,
 ) -> Result<Either<Cert, Branch>, Memory>
-    requires { IsPrepared facts.old places.now at }
+    requires prepared { IsPrepared facts.old places.now at }
+    requires calm { IsClosed facts.old → ⊥ }
     ensures same { facts.new ≡ facts.old }
     ensures finds { IfOk result (λ e. Finds facts.old e) }
 {
-    if facts.clash().is_some() {
-        return leaf(alloc, facts);
-    }
     let next = next_open(facts, places, at);
     if next == places.len() {
         return first_branch(alloc, facts);
@@ -173,7 +179,7 @@ pub fn explore(
     Ok(Left(split(alloc, places[next], first, second)?))
 }
 
-/// Searches below a value of the atom at a place.
+/// Searches below a value of the atom at a place, if no clash follows from it.
 #[cycle(exploring)]
 fn explore_value(
     alloc: Global,
@@ -189,7 +195,9 @@ fn explore_value(
     ensures same { facts.new ≡ facts.old }
     ensures finds { IfOk result (λ e. Finds (assuming facts.old (slice_index places.now at) value) e) }
 {
-    facts.assume(places[at], value);
+    if let Some(steps) = facts.refute(alloc, places[at], value)? {
+        return Ok(Left(unsplit(steps)));
+    }
     let found = explore(alloc, facts, places, at + 1);
     facts.back();
     found

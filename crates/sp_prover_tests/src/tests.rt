@@ -81,9 +81,8 @@ fn twenty_atoms_are_proved_at_the_last_split(rt: HostRuntime) -> Result<(), Fail
     Ok(())
 }
 
-/// Whether a designator is known, and that one level is below another: the reading of a file is allowed where it is, by a
-/// hypothesis or without one.
-fn access(alloc: Global, is_allowed: bool) -> Result<Root, Unbuilt> {
+/// That one level is below another is the goal, and so much is given: nothing, that a designator is known, and that too.
+fn access(alloc: Global, given: usize) -> Result<Root, Unbuilt> {
     let mut builder = Builder::new(alloc)?;
     let user = builder.term(Head::Var(0), &[], false)?;
     let unknown = builder.term(Head::Const(Value::Unknown), &[], false)?;
@@ -92,15 +91,18 @@ fn access(alloc: Global, is_allowed: bool) -> Result<Root, Unbuilt> {
     let level = builder.term(Head::Param(0), &[user], true)?;
     let other = builder.term(Head::Param(1), &[user], true)?;
     let below = builder.term(Head::Two(Op::LevelLe), &[level, other], false)?;
-    let allowed = if is_allowed { below } else { known };
-    builder.root(&[known, allowed], below, &[is_unknown, below])
+    let hypotheses = [known, below];
+    builder.root(&hypotheses[..given.min(2)], below, &[is_unknown, below])
 }
 
 #[test]
 fn a_goal_that_is_a_hypothesis_is_proved_and_another_is_open(rt: HostRuntime) -> Result<(), Fail> {
-    let root = access(rt.alloc(), true)?;
+    let root = access(rt.alloc(), 2)?;
     assert_eq!(rt; outcome(rt.alloc(), &root), Found::Proved);
-    let root = access(rt.alloc(), false)?;
+    let root = access(rt.alloc(), 1)?;
     assert_eq!(rt; outcome(rt.alloc(), &root), Found::Open(0, 2));
+    // Nothing is given: the designator is unknown in the first branch, and the goal FALSE.
+    let root = access(rt.alloc(), 0)?;
+    assert_eq!(rt; outcome(rt.alloc(), &root), Found::Open(1, 2));
     Ok(())
 }

@@ -1,7 +1,7 @@
 -- Taking an answer apart, and what it says where nothing is assumed.
-use Rattle.std.proofs.Common.{◌≡◌, ℕ, ◌-◌, ◌<◌, ◌≤◌, Bool, true, false, List, [], ◌∷◌, ◌++◌, length, take, refl, sym, ap, ◌∙◌, subst, inl, inr, arith}
+use Rattle.std.proofs.Common.{◌≡◌, ℕ, ◌-◌, ◌<◌, ◌≤◌, Bool, true, false, List, [], ◌∷◌, ◌++◌, length, take, refl, sym, ap, ◌∙◌, subst, inr, arith}
 use Rattle.std.specs.Option.{is_some}
-use Rattle.std.specs.Prelude.{slice_index, Option, Some, None, Result, Ok, Err, IfOk, IfErr}
+use Rattle.std.specs.Prelude.{Option, Some, None, Result, Ok, Err, IfOk, IfErr}
 use Rattle.std.proofs.lemmas.List.{length-append, append-nil}
 use Rattle.std.proofs.Math.Seq.{take-append_seam}
 use Rattle.either.specs.declared.Either.{Either}
@@ -18,10 +18,9 @@ use Rattle.sp_cert.specs.Checks.{fault}
 use Rattle.sp_cert.specs.Tree.{Tree, tree}
 use Rattle.sp_checker.specs.Known.{judge}
 use Rattle.sp_prover.specs.declared.branch.Branch.{Branch}
-use Rattle.sp_prover.specs.declared.branch.DecideFault.{DecideFault}
 use Rattle.sp_prover.specs.declared.branch.DecideFault.TheVariants.{TooManyAtoms}
 use Rattle.sp_prover.specs.Deciding.{AreUndetermined, Decides, HasTruths, IsClashing, IsFirstOpen, IsProof, IsRefused, LeavesFew, LeavesUndetermined, SplitsUndetermined, no_fault, values_of}
-use Rattle.sp_prover.specs.Exploring.{Allows, Finds, IsClosed, IsFirst, IsFirstBranch, IsRefuted, IsSettled, atom_at, with_memory}
+use Rattle.sp_prover.specs.Exploring.{Allows, Finds, IsClosed, IsFirstBranch, IsRefuted, IsSettled, atom_at, with_memory}
 use Rattle.sp_prover.proofs.Cutting.{given_in}
 use Rattle.sp_prover.proofs.Firsts.{first_false, first_true}
 

@@ -1,13 +1,13 @@
 -- What an answer below one more assumption says below the assumptions before it.
-use Rattle.std.proofs.Common.{◌≡◌, ℕ, zero, suc, ◌+◌, ◌*◌, ◌<◌, ◌≤◌, ◌⊎◌, ◌↔◌, ◌||◌, Bool, true, false, cond, List, [], ◌∷◌, ◌++◌, length, refl, sym, ap, ◌∙◌, subst, inl, inr, ⊎_elim, arith}
-use Rattle.std.specs.Prelude.{slice_index, nat_lt}
+use Rattle.std.proofs.Common.{◌≡◌, ℕ, zero, suc, ◌+◌, ◌*◌, ◌<◌, ◌≤◌, ◌↔◌, ◌||◌, Bool, true, false, List, [], ◌∷◌, ◌++◌, length, refl, sym, ap, ◌∙◌, subst, inl, inr, ⊎_elim, arith}
+use Rattle.std.specs.Prelude.{nat_lt}
 use Rattle.std.proofs.lemmas.Bool.Decides.{Decides-ltb}
-use Rattle.std.proofs.lemmas.List.{length-append, append_assoc, append-nil}
+use Rattle.std.proofs.lemmas.List.{length-append, append_assoc}
 use Rattle.std.proofs.Math.Nat.{mul-le-mul_left}
 use Rattle.std.proofs.Math.Path.{fun_ext}
 use Rattle.sp_rules.specs.Branches.{with_values, valued}
 use Rattle.sp_rules.specs.Facts.{has_truth, is_fact, is_one_of, with_fact}
-use Rattle.sp_rules.specs.Follows.{Follows, start}
+use Rattle.sp_rules.specs.Follows.{start}
 use Rattle.sp_rules.specs.Laws.{AreIn, EachFollows}
 use Rattle.sp_rules.specs.Questions.{IsQuestion}
 use Rattle.sp_rules.specs.Terms.{Terms, count}
@@ -23,7 +23,7 @@ use Rattle.sp_cert.specs.Tree.{Tree, Split, Leaf}
 use Rattle.sp_cert.specs.Within.{IsTree}
 use Rattle.sp_checker.specs.Known.{judge}
 use Rattle.sp_claims.specs.Laws.{IsOpenIn}
-use Rattle.sp_prover.specs.Deciding.{HasTruths, IsDetermined, SplitsUndetermined, no_fault}
+use Rattle.sp_prover.specs.Deciding.{HasTruths, SplitsUndetermined, no_fault}
 use Rattle.sp_prover.specs.Exploring.{Allows, IsClosed, IsFirst, IsRefuted, IsSettled, atom_at}
 use Rattle.sp_prover.specs.Order.{IsNotAfter}
 use Rattle.sp_prover.proofs.Checking.{leaf_checks, split_checks}

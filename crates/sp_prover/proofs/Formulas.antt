@@ -1,6 +1,6 @@
 -- A formula in numbers: TRUE and FALSE are its first terms, its atoms are few; and what a certificate tells of it.
-use Rattle.std.proofs.Common.{◌≡◌, ℕ, ◌+◌, ◌<◌, ◌≤◌, Bool, true, false, List, [], ◌∷◌, ◌++◌, length, map, refl, sym, ap, ◌∙◌, subst, arith}
-use Rattle.std.specs.Prelude.{nat_lt, Result, Ok, Err, IfOk, if◌then◌else◌}
+use Rattle.std.proofs.Common.{◌≡◌, ℕ, ◌+◌, ◌<◌, ◌≤◌, Bool, true, false, List, [], ◌∷◌, ◌++◌, length, refl, sym, ap, ◌∙◌, subst, arith}
+use Rattle.std.specs.Prelude.{Result, Ok, Err, IfOk, if◌then◌else◌}
 use Rattle.std.proofs.lemmas.Bool.Decides.{Decides-ltb}
 use Rattle.std.proofs.lemmas.List.{length-map}
 use Rattle.either.specs.declared.Either.{Either}
@@ -11,8 +11,7 @@ use Rattle.sp_core.specs.Parts.{Parts, signature}
 use Rattle.sp_core.specs.Tree.{Tree}
 use Rattle.sp_core.specs.Typing.{Signature}
 use Rattle.sp_core.specs.WellFormed.{IsWellFormed}
-use Rattle.sp_rules.specs.Clash.{are_apart}
-use Rattle.sp_rules.specs.Terms.{Terms, count, node_at}
+use Rattle.sp_rules.specs.Terms.{Terms, count}
 use Rattle.sp_rules.proofs.FactLemmas.{both_true}
 use Rattle.sp_pool.specs.declared.node.Node.{Node}
 use Rattle.sp_sequent.specs.Claims.{Claim, IsTypedClaim, numbers_of, question_of, terms_in}

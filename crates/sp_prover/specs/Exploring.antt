@@ -1,5 +1,5 @@
 -- What the search answers below what is assumed. For its own functions.
-use Rattle.std.specs.Prelude.{◌≡◌, ℕ, ◌+◌, ◌<◌, ◌≤◌, ◌⊎◌, ◌++◌, ◌∷◌, [], Bool, true, false, List, length, slice_index, Result, Ok, Err}
+use Rattle.std.specs.Prelude.{◌≡◌, ℕ, ◌+◌, ◌<◌, ◌≤◌, ◌⊎◌, Bool, List, length, slice_index, Result, Ok, Err}
 use Rattle.either.specs.declared.Either.{Either}
 use Rattle.either.specs.Either.{MatchEither}
 use Rattle.sp_rules.specs.Branches.{HasClash, valued}

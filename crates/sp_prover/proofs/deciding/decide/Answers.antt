@@ -1,8 +1,8 @@
-use Rattle.std.proofs.Common.{◌≡◌, ◌≤◌, length, sym, ap, ◌∙◌, subst, arith}
+use Rattle.std.proofs.Common.{◌≤◌, length, sym, ap, ◌∙◌, subst, arith}
 use Rattle.std.specs.Prelude.{IfErr, IfOk}
 use Rattle.sp_rules.specs.Questions.{Question}
-use Rattle.sp_sequent.specs.Claims.{claim_of, question_of}
-use Rattle.sp_sequent.specs.Sequents.{TermNumbers, question_over}
+use Rattle.sp_sequent.specs.Claims.{claim_of}
+use Rattle.sp_sequent.specs.Sequents.{TermNumbers}
 use Rattle.sp_prover.specs.Deciding.{Decides, HasTruths, IsRefused, LeavesFew}
 use Rattle.sp_pool.proofs.NodeLaws.{two}
 use Rattle.sp_sequent.specs.Claims.{terms_in}

@@ -1,4 +1,4 @@
-use Rattle.std.proofs.Common.{◌≡◌, true, sym, ◌∙◌, subst, inl}
+use Rattle.std.proofs.Common.{sym, ◌∙◌, subst, inl}
 use Rattle.std.specs.Prelude.{IfOk}
 use Rattle.sp_prover.specs.Deciding.{Decides, LeavesFew}
 use Rattle.sp_prover.proofs.Finding.{clashing, found_decided, found_few, some_clash}

@@ -1,4 +1,4 @@
-use Rattle.std.proofs.Common.{◌≡◌, sym, subst, arith}
+use Rattle.std.proofs.Common.{sym, subst, arith}
 use Rattle.std.specs.Prelude.{IfErr, IfOk}
 use Rattle.sp_prover.specs.Deciding.{Decides, IsRefused, LeavesFew}
 use Rattle.sp_prover.proofs.Finding.{few_left, found_decided, found_few, not_refused}

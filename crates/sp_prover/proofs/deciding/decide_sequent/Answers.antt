@@ -1,4 +1,4 @@
-use Rattle.std.proofs.Common.{◌≡◌, subst}
+use Rattle.std.proofs.Common.{subst}
 use Rattle.std.specs.Prelude.{IfErr, IfOk}
 use Rattle.sp_rules.specs.Questions.{Question}
 use Rattle.sp_prover.specs.Deciding.{Decides, IsRefused, LeavesFew}

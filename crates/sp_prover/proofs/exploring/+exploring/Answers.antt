@@ -1,10 +1,12 @@
-use Rattle.std.proofs.Common.{◌≡◌, ℕ, ◌+◌, ◌-◌, ◌<◌, ◌≤◌, Bool, true, false, List, length, refl, sym, ap, ◌∙◌, subst, arith}
-use Rattle.std.specs.Prelude.{slice_index, IfOk}
-use Rattle.sp_saturate.specs.Situations.{Situation, assuming}
-use Rattle.sp_cert.specs.Tree.{tree, Split}
-use Rattle.sp_prover.specs.Exploring.{IsFirstBranch, IsPrepared, IsRefuted, IsSettled}
+use Rattle.std.proofs.Common.{◌≡◌, ℕ, ◌+◌, ◌*◌, ◌<◌, ◌≤◌, Bool, true, false, List, length, sym, subst, arith}
+use Rattle.std.specs.Prelude.{slice_index, IfSome, MatchOption}
+use Rattle.sp_rules.specs.Terms.{count}
+use Rattle.sp_saturate.specs.Accepted.{AreAccepted, EndInClash}
+use Rattle.sp_saturate.specs.Situations.{Situation, assuming, supposed}
+use Rattle.sp_cert.specs.Tree.{tree}
+use Rattle.sp_prover.specs.Exploring.{IsClosed, IsFirstBranch, IsPrepared, IsRefuted, IsSettled}
 use Rattle.sp_prover.proofs.Finding.{branch_false, branch_true, left_of, right_of}
-use Rattle.sp_prover.proofs.Firsts.{split_refuted}
+use Rattle.sp_prover.proofs.Firsts.{leaf_refuted, split_refuted}
 use Rattle.sp_prover.proofs.Places.{all_before, before_next, prepared_next}
 use Rattle.sp_prover.proofs.exploring.+exploring.Goals as goal
 
@@ -75,3 +77,28 @@ explore-returns-clause-finds t c =
     subst (λ (t : Situation). IsRefuted (assuming t a false) (tree c.in-Left-2.cert)) c.explore_value.ensures.same
     (left_of (assuming c.explore_value.new.facts a false) c.in_ok-cert-2.field-0 c.in-Left-2.cert c.in_ok-cert-2.ensures.finds c.in-Left-2.is) in
     subst (IsRefuted s) (sym c.in_ok-split.ensures) (split_refuted s a (tree c.in-Left.cert) (tree c.in-Left-2.cert) (c.requires.prepared.chosen.within next l) c.requires.prepared.few_atoms few (n.free l) first second)
+
+pub explore_value-returns-in-Some-clause-finds : goal.explore_value-returns-in-Some-clause-finds
+explore_value-returns-in-Some-clause-finds t c =
+    let s = assuming c.args.facts.now (slice_index c.args.places.now c.args.at) c.args.value in
+    let p = c.requires.prepared in
+    let e = c.in_ok-steps.ensures in
+    let is = c.in-Some.is in
+    let ts = s.question.terms in
+    subst (IsRefuted s) (sym c.unsplit.ensures)
+    (leaf_refuted s c.in-Some.steps.items p.question (omega (arith, p.assumed, p.place, p.chosen.few))
+    (subst (λ o. IfSome o (λ steps. AreAccepted ts (supposed s) steps.items)) is e.accepted)
+    (subst (λ o. IfSome o (λ steps. length steps.items ≤ 2 * (count ts * count ts))) is e.few)
+    (subst (λ o. IfSome o (λ steps. EndInClash ts steps.items)) is e.ends)
+    (subst (λ o. MatchOption o (IsClosed s → ⊥) (λ steps. IsClosed s)) is e.clash))
+
+pub explore_value-explore-found-requires : goal.explore_value-explore-found-requires
+explore_value-explore-found-requires t c =
+    let s = assuming c.args.facts.now (slice_index c.args.places.now c.args.at) c.args.value in
+    let e = c.in_ok-steps.ensures in
+    let is = c.in_default.is in
+    let new : c.refute.new.self ≡ s = subst (λ o. MatchOption o (c.refute.new.self ≡ s) (λ steps. c.refute.new.self ≡ c.args.facts.now)) is e.assumed in
+    let calm : IsClosed s → ⊥ = subst (λ o. MatchOption o (IsClosed s → ⊥) (λ steps. IsClosed s)) is e.clash in (
+      omega (arith, c.decreases, c.requires.at),
+      subst (λ (u : Situation). IsPrepared u c.args.places.now (c.args.at + 1) × (IsClosed u → ⊥)) (sym new) (c.requires.prepared, calm),
+    )

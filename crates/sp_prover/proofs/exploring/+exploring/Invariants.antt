@@ -1,4 +1,4 @@
-use Rattle.std.proofs.Common.{ℕ, ◌+◌, ◌*◌, ◌-◌, length}
+use Rattle.std.proofs.Common.{◌*◌, ◌-◌, length}
 use Rattle.sp_prover.proofs.exploring.+exploring.Given as goal
 
 abbrev pub decreases-explore : goal.decreases-explore

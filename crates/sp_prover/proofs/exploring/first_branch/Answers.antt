@@ -1,4 +1,3 @@
-use Rattle.std.proofs.Common.{◌≡◌}
 use Rattle.sp_prover.specs.Deciding.{values_of}
 use Rattle.sp_prover.proofs.Firsts.{first_all}
 use Rattle.sp_prover.proofs.exploring.first_branch.Goals as goal

@@ -1,4 +1,4 @@
-use Rattle.std.proofs.Common.{◌≡◌, ℕ, ◌+◌, ◌++◌, ◌∷◌, [], Bool, true, false, List, sym, ap, ◌∙◌, subst}
+use Rattle.std.proofs.Common.{ℕ, ◌+◌, ◌++◌, ◌∷◌, [], List, sym, ap, ◌∙◌, subst}
 use Rattle.std.specs.Prelude.{is_ok, cond}
 use Rattle.sp_saturate.specs.Situations.{supposed}
 use Rattle.sp_prover.specs.Deciding.{AreUndeterminedBelow}

@@ -1,4 +1,4 @@
-use Rattle.std.proofs.Common.{◌≤◌, ℕ, length}
+use Rattle.std.proofs.Common.{◌≤◌, length}
 use Rattle.sp_saturate.specs.Situations.{supposed}
 use Rattle.sp_prover.specs.Deciding.{AreUndeterminedBelow}
 use Rattle.sp_prover.proofs.exploring.undetermined.Given as goal

@@ -1,7 +1,7 @@
 -- Assertions and functions added to a list.
-use Rattle.std.proofs.Common.{◌≡◌, refl, sym, ◌∙◌, ap, subst, arith, ℕ, suc, ◌+◌, List, [], ◌∷◌, ◌++◌, length, append_assoc}
-use Rattle.std.specs.Prelude.{Option, map}
+use Rattle.std.proofs.Common.{◌≡◌, refl, sym, ◌∙◌, ap, subst, arith, ℕ, suc, ◌+◌, ◌-◌, ◌≤◌, List, [], ◌∷◌, ◌++◌, length, take, drop, get_or, append_assoc}
 use Rattle.std.proofs.lemmas.List.{append-nil, length-append}
+use Rattle.std.proofs.Math.Seq.{take-length}
 use Rattle.sp_tree.specs.declared.expr.ExprTree.{ExprTree}
 use Rattle.sp_tree.specs.declared.interface.Equation.{Equation}
 use Rattle.sp_tree.specs.declared.module.FunDecl.{FunDecl}
@@ -71,3 +71,11 @@ module _ (t : Visible) (qs : List Equation) where
 
   pub all_functions : (xs : List (ℕ × FunDecl)) (new : List Function) → AddsFunctions t qs xs [] new → AreFunctions (at_module t) t qs 0 xs new
   all_functions xs new h = subst (AreFunctions (at_module t) t qs 0 xs) (sym h.1) h.2
+
+-- a list as its pattern reads it
+pub split : {A : Type 0} (xs : List A) (x : A) → 1 ≤ length xs → x ≡ get_or xs 0 x → x ∷ take (length xs - 1) (drop 1 xs) ≡ xs
+split [] x l i = absurd (omega (arith, l))
+split (y ∷ xs) x l i =
+    let one : length (y ∷ xs) - 1 ≡ length xs = omega arith in
+    let rest : take (length (y ∷ xs) - 1) xs ≡ xs = ap (λ n. take n xs) one ∙ take-length xs in
+    (λ j. i j ∷ rest j)

@@ -1,5 +1,5 @@
 -- What a loop over texts tells of all of them.
-use Rattle.std.proofs.Common.{◌≡◌, subst, ℕ, ◌+◌, ◌<◌, List, length, take, get_or}
+use Rattle.std.proofs.Common.{◌≡◌, refl, ap, subst, arith, ℕ, zero, suc, ◌+◌, ◌<◌, ◌≤◌, List, [], ◌∷◌, length, take, get_or}
 use Rattle.std.specs.List.{All}
 use Rattle.std.proofs.lemmas.List.Elements.{All-more}
 use Rattle.sp_tree.specs.declared.expr.ExprTree.{ExprTree}
@@ -43,3 +43,12 @@ definitions_told = next IsDefinitionNumbered
 
 pub equations_told : (qs : List Equation) (k : ℕ) (q : Equation) → k < length qs → q ≡ get_or qs k q → All IsEquationNumbered (take k qs) → IsEquationNumbered q → All IsEquationNumbered (take (k + 1) qs)
 equations_told = next IsEquationNumbered
+
+take_past : {A : Type 0} (xs : List A) (n : ℕ) → length xs ≤ n → take n xs ≡ xs
+take_past [] zero l = refl
+take_past [] (suc n) l = refl
+take_past (x ∷ xs) zero l = absurd (omega (arith, l))
+take_past (x ∷ xs) (suc n) l = ap (λ ys. x ∷ ys) (take_past xs n (omega (arith, l)))
+
+pub modules_all : (ms : List Module) (k : ℕ) → length ms ≤ k → All IsModuleNumbered (take k ms) → All IsModuleNumbered ms
+modules_all ms k l h = subst (All IsModuleNumbered) (take_past ms k l) h

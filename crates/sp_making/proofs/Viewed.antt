@@ -1,5 +1,5 @@
 -- What is said by what the interface sees is said by the views of an interface's names.
-use Rattle.std.proofs.Common.{◌≡◌, refl, ◌∙◌, ap, ℕ, List, [], ◌∷◌, ◌++◌, length}
+use Rattle.std.proofs.Common.{◌≡◌, refl, ap, ℕ, List, [], ◌∷◌, ◌++◌, length}
 use Rattle.sp_text.specs.Violations.{in_file}
 use Rattle.sp_tree.specs.declared.interface.Equation.{Equation}
 use Rattle.sp_tree.specs.declared.module.Module.{Module}
@@ -10,7 +10,7 @@ use Rattle.sp_elaborate.specs.Views.{cores_from, view}
 use Rattle.sp_functions.specs.Equations.{equations_broken}
 use Rattle.sp_specification.specs.Ends as ends
 use Rattle.sp_specification.specs.Ends.{levels_broken, whole_view}
-use Rattle.sp_making.specs.Seen.{at_module, ends_broken, modules_broken}
+use Rattle.sp_making.specs.Seen.{ends_broken, modules_broken}
 
 module _ (s : Scopes) (bottom top : ℕ) (qs : List Equation) where
   same_modules : (k g : ℕ) (ms : List Module) → modules_broken (whole_view s bottom top) qs k g ms ≡ ends.modules_broken s bottom top (whole_view s bottom top) qs k g ms

@@ -53,7 +53,7 @@ fn push_assertion(
     Ok(())
 }
 
-#[tactic(auto, using(crate::proofs::Growing::adds_no_assertions, crate::proofs::Growing::adds_next_assertion))]
+#[tactic(auto, using(crate::proofs::Growing::adds_no_assertions))]
 fn push_all(
     alloc: Global,
     whole: &Scope,
@@ -71,7 +71,7 @@ fn push_all(
     Ok(())
 }
 
-#[tactic(auto, using(crate::proofs::Growing::adds_no_assertions, crate::proofs::Growing::adds_assertions))]
+#[tactic(auto, using(crate::proofs::Growing::adds_no_assertions))]
 fn push_modules(
     alloc: Global,
     whole: &Scope,

@@ -60,7 +60,7 @@ fn push_function(
     Ok(())
 }
 
-#[tactic(auto, using(crate::proofs::Growing::adds_no_functions, crate::proofs::Growing::adds_next_function))]
+#[tactic(auto, using(crate::proofs::Growing::adds_no_functions))]
 fn push_all(
     alloc: Global,
     whole: &Scope,
@@ -79,7 +79,7 @@ fn push_all(
     Ok(())
 }
 
-#[tactic(auto, using(crate::proofs::Growing::adds_no_functions, crate::proofs::Growing::adds_functions))]
+#[tactic(auto, using(crate::proofs::Growing::adds_no_functions))]
 fn push_modules(
     alloc: Global,
     whole: &Scope,

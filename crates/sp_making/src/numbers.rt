@@ -61,7 +61,6 @@ fn tell_module(m: &Module)
     tell_functions(m.functions.items());
 }
 
-#[tactic(auto, using(crate::proofs::Numbered::modules_told))]
 fn tell_modules(modules: &[Module])
     ensures { All spec.IsModuleNumbered modules.now }
 {

@@ -137,6 +137,8 @@ fn judge_all_equations(
     judge_equations(alloc, whole, &flags, equations)
 }
 
+// Where the equations break nothing, they are as few as the functions, so that few are searched for each function's.
+#[tactic(auto, using(crate::proofs::Earlier::own_first, crate::proofs::Earlier::others_first))]
 fn judge_seen(
     alloc: Global,
     whole: &Scope,
@@ -146,9 +148,10 @@ fn judge_seen(
     requires { AreFine whole.now.cores }
     ensures { IfOk result (λ r. r ≡ first_in_files (seen.ends_broken whole.now equations.now modules.now)) }
 {
-    let own = judge_all_equations(alloc, whole, equations)?;
-    let others = judge_modules(alloc, whole, equations, 0, 0, modules)?;
-    Ok(earlier_in_files(in_file(0, own), others))
+    match judge_all_equations(alloc, whole, equations)? {
+        Some(found) => Ok(in_file(0, Some(found))),
+        None => judge_modules(alloc, whole, equations, 0, 0, modules),
+    }
 }
 
 /// The first of what the level equations of an interface and the levels of its functions break, where these are the

@@ -24,7 +24,7 @@ use Rattle.sp_ordered.specs.declared.judging.Judgement.TheVariants as judgement
 use Rattle.sp_ordered.specs.Judgements.{IsLatticeOf, IsTold, IsToldOf}
 use Rattle.sp_specification.specs.Orders.{IsOrderJudged, Judged, alone, headers_broken, keyword}
 use Rattle.sp_ordered.proofs.Judged.{judged_flaw, judged_lattice, unjudged}
-use Rattle.sp_ordered.proofs.Levels.{one_naming, one_order}
+use Rattle.sp_ordered.proofs.Levels.{alone_fine, one_naming, one_order}
 
 -- names of levels with their declared order
 abbrev Named : Type 0
@@ -67,6 +67,10 @@ told_flaw i j r p t is at vs b = let told = subst (IsTold i) is t in judged_flaw
 
 pub told_unjudged : (i : InterfaceTree) (j : Judgement) → IsTold i j → j ≡ judgement.Unjudged → (vs : List Violation) → IsOrderJudged i vs → vs ≡ []
 told_unjudged i j t is vs b = unjudged i (subst (IsTold i) is t) vs b
+
+-- where names and headers break nothing, the order is judged
+pub told_judged : (i : InterfaceTree) (ms : List Module) (j : Judgement) → IsTold i j → scopes_broken i ms ≡ [] → j ≡ judgement.Unjudged → ⊥
+told_judged i ms j t h is = subst (IsTold i) is t (alone_fine i ms h)
 
 -- where the order breaks nothing, a fault stays
 pub same_fault : (vs : List FileViolation) (ws : List Violation) (f : ℕ) (g : TextFault) → ws ≡ [] → NamesInFile vs f g → NamesInFile (vs ++ in_file 0 ws) f g

@@ -123,7 +123,7 @@ pub fn order_names(
                 file: 0,
                 fault: TextFault::Malformed(Malformed { span: place, rule }),
             }),
-            Judgement::Unjudged => Err(out_of_memory()),
+            Judgement::Unjudged => unreachable!(),
         },
         Err(refused) => Err(earliest_fault(refused, &order, place)),
     }

@@ -2,7 +2,7 @@ use Rattle.std.proofs.Common.{◌∙◌, ap}
 use Rattle.sp_text.specs.Violations.{in_file}
 use Rattle.sp_scopes.specs.Interfaces.{scopes_broken}
 use Rattle.sp_order.proofs.Ends.{ends}
-use Rattle.sp_ordered.proofs.Told.{first_flaw, headers_fine, told_fine, told_flaw, told_nothing, told_whole}
+use Rattle.sp_ordered.proofs.Told.{first_flaw, headers_fine, told_fine, told_flaw, told_judged, told_nothing, told_whole}
 use Rattle.sp_ordered.proofs.ordered.order_names.Goals as goal
 
 pub returns-in-Kept-clause-judged : goal.returns-in-Kept-clause-judged
@@ -41,3 +41,6 @@ pub returns-in-Kept-clause-ends : goal.returns-in-Kept-clause-ends
 returns-in-Kept-clause-ends c =
     let told = told_whole c.args.interface.now c.args.modules.now c.in-Ok-declare.scopes c.in-Ok.order c.in-Kept.lattice c.in-Ok.ensures c.in-Kept.is c.in-Ok-declare.ensures.1 in
     ends c.in-Ok-declare.scopes c.in-Kept.lattice told.order told.lattice
+
+pub unreachable-requires : goal.unreachable-requires
+unreachable-requires c = told_judged c.args.interface.now c.args.modules.now c.in-Ok.order c.in-Ok.ensures c.in-Ok-declare.ensures.0 c.in-Unjudged.is

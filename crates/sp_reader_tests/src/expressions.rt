@@ -2,22 +2,22 @@ use crate::texts::{span, tokens};
 use sp_expression::parse_expr;
 use sp_text::{Limit, Malformed, Quantity, Rule, TextFault};
 use sp_tree::{BinOp, ExprNode, ExprTree};
+use sqlite_items::Boxed;
 use std::alloc::Global;
 use std::process::Abort;
 use std::test::Fail;
 
-/// What the text reads as within the height, from its first token on, and how many tokens it is.
-fn read(alloc: Global, text: &[u8], budget: u32) -> Result<(ExprTree, usize), TextFault> {
+/// What the text reads as within the height, from its first token on, and how many tokens it is. It is boxed, since the
+/// proof of whoever lets an expression itself go goes through all its forms.
+fn read(alloc: Global, text: &[u8], budget: u32) -> Result<(Boxed<ExprTree>, usize), TextFault> {
     let tokens = tokens(alloc, text)?;
-    parse_expr(alloc, &tokens, 0, text.len() as u32, budget)
+    let (tree, next) = parse_expr(alloc, &tokens, 0, text.len() as u32, budget)?;
+    Ok((Boxed::new(alloc, tree)?, next))
 }
 
 /// How many tokens of the text are an expression, or its fault.
 fn count(alloc: Global, text: &[u8], budget: u32) -> Result<usize, TextFault> {
-    match &read(alloc, text, budget) {
-        Ok((_, next)) => Ok(*next),
-        Err(fault) => Err(*fault),
-    }
+    Ok(read(alloc, text, budget)?.1)
 }
 
 fn unexpected(start: u32, end: u32) -> Result<usize, TextFault> {
@@ -61,14 +61,14 @@ fn leans_right(tree: &ExprTree) -> bool {
 #[test]
 fn an_implication_leans_to_the_right(rt: HostRuntime) -> Result<(), Fail> {
     let (tree, next) = read(rt.alloc(), b"a IMPLIES b IMPLIES c", 64)?;
-    assert!(rt; next == 5 && leans_right(&tree));
+    assert!(rt; next == 5 && leans_right(tree.get()));
     Ok(())
 }
 
 #[test]
 fn not_is_looser_than_a_comparison(rt: HostRuntime) -> Result<(), Fail> {
     let (tree, next) = read(rt.alloc(), b"NOT x = y", 64)?;
-    assert!(rt; next == 4 && matches!(tree.node, ExprNode::Not(_)));
+    assert!(rt; next == 4 && matches!(tree.get().node, ExprNode::Not(_)));
     shows(&rt, rt.alloc(), b"x = NOT y", 64, unexpected(4, 7));
     Ok(())
 }
@@ -76,8 +76,8 @@ fn not_is_looser_than_a_comparison(rt: HostRuntime) -> Result<(), Fail> {
 #[test]
 fn a_chain_leans_to_the_left(rt: HostRuntime) -> Result<(), Fail> {
     let (tree, next) = read(rt.alloc(), b"a - b + c", 64)?;
-    assert!(rt; next == 5 && tree.span == span(0, 9));
-    assert!(rt; matches!(tree.node, ExprNode::Binary(BinOp::Add, _, _)));
+    assert!(rt; next == 5 && tree.get().span == span(0, 9));
+    assert!(rt; matches!(tree.get().node, ExprNode::Binary(BinOp::Add, _, _)));
     Ok(())
 }
 
@@ -103,7 +103,7 @@ fn has_bounded(tree: &ExprTree) -> bool {
 #[test]
 fn a_tree_spans_its_tokens(rt: HostRuntime) -> Result<(), Fail> {
     let (tree, _) = read(rt.alloc(), b"'f(xy) = LUB((ab), c)", 64)?;
-    assert!(rt; has_sides(&tree));
+    assert!(rt; has_sides(tree.get()));
     Ok(())
 }
 

@@ -83,45 +83,43 @@ fn text(alloc: Global, parts: &[&[u8]]) -> Result<Vec<u8>, Fail> {
 }
 
 // Whether the tree of the one text is migrated to that of the other.
-fn is_lifted(alloc: Global, before: &[u8], after: &[u8]) -> Result<bool, Fail> {
+fn is_lifted(alloc: Global, before: &[&[u8]], after: &[&[u8]]) -> Result<bool, Fail> {
+    let before = text(alloc, before)?;
+    let after = text(alloc, after)?;
     let root = root(alloc)?;
     let mut checker = Checker::open(alloc, &root)?;
-    match lifted(alloc, &mut checker, before)? {
-        Ok(out) => Ok(out.as_slice() == after),
+    match lifted(alloc, &mut checker, &before)? {
+        Ok(out) => Ok(out.as_slice() == after.as_slice()),
         Err(_) => Ok(false),
     }
+}
+
+const TWICE: [&[u8]; 3] = [b"CERT 1\nFORMULA 1\nSPLIT 0\n", LEAF, LEAF];
+
+const ONCE: [&[u8]; 5] = [b"CERT 2\nFORMULA 1\n", SHARED, b"SPLIT 0\n", END, END];
+
+#[test]
+fn a_leaf_that_stands_twice_is_shared(rt: HostRuntime) -> Result<(), Fail> {
+    assert!(rt; is_lifted(rt.alloc(), &TWICE, &ONCE)?);
+    Ok(())
+}
+
+const LOW: [&[u8]; 4] = [b"CERT 1\nFORMULA 1\nSPLIT 1\nSPLIT 0\n", LEAF, LEAF, OTHER];
+
+const HIGH: [&[u8]; 6] = [b"CERT 2\nFORMULA 1\n", UPPER, LOWER, END, END, OTHER_END];
+
+#[test]
+fn each_step_moves_as_high_as_it_can(rt: HostRuntime) -> Result<(), Fail> {
+    assert!(rt; is_lifted(rt.alloc(), &LOW, &HIGH)?);
+    Ok(())
 }
 
 // Whether the certificate of a text doesn't check, with this fault.
 fn is_refused(alloc: Global, before: &[u8], fault: CertFault) -> Result<bool, Fail> {
     let root = root(alloc)?;
     let mut checker = Checker::open(alloc, &root)?;
-    Ok(lifted(alloc, &mut checker, before)?.err() == Some(LiftFault::Unchecked(fault)))
-}
-
-#[test]
-fn a_leaf_that_stands_twice_is_shared(rt: HostRuntime) -> Result<(), Fail> {
-    let before = text(rt.alloc(), &[b"CERT 1\nFORMULA 1\nSPLIT 0\n", LEAF, LEAF])?;
-    let after = text(
-        rt.alloc(),
-        &[b"CERT 2\nFORMULA 1\n", SHARED, b"SPLIT 0\n", END, END],
-    )?;
-    assert!(rt; is_lifted(rt.alloc(), &before, &after)?);
-    Ok(())
-}
-
-#[test]
-fn each_step_moves_as_high_as_it_can(rt: HostRuntime) -> Result<(), Fail> {
-    let before = text(
-        rt.alloc(),
-        &[b"CERT 1\nFORMULA 1\nSPLIT 1\nSPLIT 0\n", LEAF, LEAF, OTHER],
-    )?;
-    let after = text(
-        rt.alloc(),
-        &[b"CERT 2\nFORMULA 1\n", UPPER, LOWER, END, END, OTHER_END],
-    )?;
-    assert!(rt; is_lifted(rt.alloc(), &before, &after)?);
-    Ok(())
+    let refused = Some(LiftFault::Unchecked(fault));
+    Ok(lifted(alloc, &mut checker, before)?.err() == refused)
 }
 
 #[test]

@@ -1,4 +1,4 @@
-use sp_cert::{CertFile, read_cert, write_cert};
+use sp_cert::{read_cert, write_cert};
 use sp_text::{Limit, Malformed, Quantity, Rule, Span, TextFault};
 use std::alloc::Global;
 use std::test::Fail;
@@ -45,8 +45,8 @@ fn line_start(text: &[u8], k: usize) -> u32 {
     start
 }
 
-// So many copies of a line behind a text.
-fn with_lines(text: &mut Vec<u8>, line: &[u8], count: u32) -> Result<(), Fail> {
+/// So many copies of a line behind a text.
+pub fn with_lines(text: &mut Vec<u8>, line: &[u8], count: u32) -> Result<(), Fail> {
     for _copy in 0..count {
         text.extend_from_slice(line)?;
     }
@@ -55,68 +55,82 @@ fn with_lines(text: &mut Vec<u8>, line: &[u8], count: u32) -> Result<(), Fail> {
 
 #[test]
 fn the_worked_text_is_read(rt: HostRuntime) {
-    assert_eq!(rt; WORKED.len(), 169);
+    assert!(rt; WORKED.len() == 169);
     let file = read_cert(rt.alloc(), WORKED);
     assert!(rt; matches!(&file, Ok(file) if file.format == 1 && file.certs.len() == 2));
 }
 
-fn is_written_again(alloc: Global, text: &[u8]) -> Result<bool, Fail> {
+fn is_written_again(alloc: Global, text: &[u8]) -> bool {
     if text.len() > 67108864 {
-        return Ok(false);
+        return false;
     }
-    let file: CertFile = match read_cert(alloc, text) {
-        Ok(file) => file,
-        Err(_) => return Ok(false),
+    let Ok(file) = read_cert(alloc, text) else {
+        return false;
     };
     let mut out = Vec::new(alloc);
-    if write_cert(alloc, &file, &mut out).is_err() {
-        return Ok(false);
-    }
-    Ok(out.as_slice() == text)
+    write_cert(alloc, &file, &mut out).is_ok() && out.as_slice() == text
 }
 
 #[test]
-fn what_is_read_is_written_again(rt: HostRuntime) -> Result<(), Fail> {
-    assert!(rt; is_written_again(rt.alloc(), WORKED)?);
-    assert!(rt; is_written_again(rt.alloc(), SHARED)?);
-    assert!(rt; is_written_again(rt.alloc(), b"CERT 2\n")?);
-    Ok(())
+fn what_is_read_is_written_again(rt: HostRuntime) {
+    for text in &[WORKED, SHARED, b"CERT 2\n"] {
+        assert!(rt; is_written_again(rt.alloc(), text));
+    }
+}
+
+// The fault of the worked text, cut behind so many bytes.
+fn cut_fault(cut: usize) -> Option<TextFault> {
+    if cut == 7 || cut == 88 || cut == 169 {
+        return None;
+    }
+    bad_line(line_start(WORKED, cut), cut.min(4294967295) as u32)
 }
 
 #[test]
 fn a_cut_text_has_its_place(rt: HostRuntime) {
-    for k in 0..170 {
-        let fault = fault_of(rt.alloc(), &WORKED[..k]);
-        if k == 7 || k == 88 || k == 169 {
-            assert!(rt; fault == None, "cut at {k}");
-        } else {
-            assert!(rt;
-                fault == bad_line(line_start(WORKED, k), k as u32),
-                "cut at {k}"
-            );
-        }
+    for cut in 0..170 {
+        let front = WORKED.get(..cut).unwrap_or(b"");
+        assert!(rt;
+            fault_of(rt.alloc(), front) == cut_fault(cut),
+            "cut at {cut}"
+        );
     }
 }
 
+/// Texts that don't read, and the place of the line that is off.
+const MISSPELLED: [(&[u8], u32, u32); 12] = [
+    (b"CERT 1 \n", 0, 7),
+    (b"CERT 3\n", 0, 6),
+    (b"CERT 01\n", 0, 7),
+    (b"CERT 1\nFORMULA 01\nLEAF 0\n", 7, 17),
+    (b"CERT 1\nFORMULA 2\nLEAF 0\n", 7, 16),
+    (b"CERT 1\nFORMULA 1\nLEAF 1\nEQ 0  1 K1 0 0\n", 24, 38),
+    (b"CERT 1\nFORMULA 1\nLEAF 1\nEQ 0 1 K24 0 0\n", 24, 38),
+    (b"CERT 1\nFORMULA 1\nLEAF 1\nEQ 0 1 K0 0 0\n", 24, 37),
+    (
+        b"CERT 1\nFORMULA 1\nLEAF 1\nEQ 0 4294967296 K1 0 0\n",
+        24,
+        46,
+    ),
+    (b"CERT 1\nFORMULA 1\nLEAF 0\n\n", 24, 24),
+    (b"CERT 1\nFORMULA 1\nSPLIT 00\n", 17, 25),
+    (b"CERT 1\nFORMULA 1\nSTEPS 0\nLEAF 0\n", 17, 24),
+];
+
+/// Texts that read.
+const SPELLED: [&[u8]; 2] = [
+    b"CERT 1\nFORMULA 1\nLEAF 1\nLE 0 4294967295 K1 0 0\n",
+    b"CERT 2\nFORMULA 1\nSTEPS 0\nLEAF 0\n",
+];
+
 #[test]
 fn lines_have_one_spelling(rt: HostRuntime) {
-    let a = rt.alloc();
-    assert!(rt; fault_of(a, b"CERT 1 \n") == bad_line(0, 7));
-    assert!(rt; fault_of(a, b"CERT 3\n") == bad_line(0, 6));
-    assert!(rt; fault_of(a, b"CERT 01\n") == bad_line(0, 7));
-    assert!(rt; fault_of(a, b"CERT 1\nFORMULA 01\nLEAF 0\n") == bad_line(7, 17));
-    assert!(rt; fault_of(a, b"CERT 1\nFORMULA 2\nLEAF 0\n") == bad_line(7, 16));
-    assert!(rt; fault_of(a, b"CERT 1\nFORMULA 1\nLEAF 1\nEQ 0  1 K1 0 0\n") == bad_line(24, 38));
-    assert!(rt; fault_of(a, b"CERT 1\nFORMULA 1\nLEAF 1\nEQ 0 1 K24 0 0\n") == bad_line(24, 38));
-    assert!(rt; fault_of(a, b"CERT 1\nFORMULA 1\nLEAF 1\nEQ 0 1 K0 0 0\n") == bad_line(24, 37));
-    assert!(rt;
-        fault_of(a, b"CERT 1\nFORMULA 1\nLEAF 1\nEQ 0 4294967296 K1 0 0\n") == bad_line(24, 46)
-    );
-    assert!(rt; fault_of(a, b"CERT 1\nFORMULA 1\nLEAF 1\nLE 0 4294967295 K1 0 0\n") == None);
-    assert!(rt; fault_of(a, b"CERT 1\nFORMULA 1\nLEAF 0\n\n") == bad_line(24, 24));
-    assert!(rt; fault_of(a, b"CERT 1\nFORMULA 1\nSPLIT 00\n") == bad_line(17, 25));
-    assert!(rt; fault_of(a, b"CERT 1\nFORMULA 1\nSTEPS 0\nLEAF 0\n") == bad_line(17, 24));
-    assert!(rt; fault_of(a, b"CERT 2\nFORMULA 1\nSTEPS 0\nLEAF 0\n") == None);
+    for (text, start, end) in &MISSPELLED {
+        assert!(rt; fault_of(rt.alloc(), text) == bad_line(*start, *end));
+    }
+    for text in &SPELLED {
+        assert!(rt; fault_of(rt.alloc(), text) == None);
+    }
 }
 
 #[test]
@@ -127,16 +141,26 @@ fn a_65th_split_line_is_too_deep(rt: HostRuntime) -> Result<(), Fail> {
     Ok(())
 }
 
+// A text of format 2 with so many STEPS lines, and a SPLIT with its leaves below them.
+fn above_split(alloc: Global, steps: u32) -> Result<Vec<u8>, Fail> {
+    let mut text = Vec::from_slice(alloc, b"CERT 2\nFORMULA 1\n")?;
+    with_lines(&mut text, b"STEPS 0\n", steps)?;
+    text.extend_from_slice(b"SPLIT 0\nLEAF 0\nLEAF 0\n")?;
+    Ok(text)
+}
+
+// A text of format 2 with a SPLIT line and so many STEPS lines below it.
+fn below_split(alloc: Global, steps: u32) -> Result<Vec<u8>, Fail> {
+    let mut text = Vec::from_slice(alloc, b"CERT 2\nFORMULA 1\nSPLIT 0\n")?;
+    with_lines(&mut text, b"STEPS 0\n", steps)?;
+    Ok(text)
+}
+
 #[test]
 fn split_and_steps_lines_count_together(rt: HostRuntime) -> Result<(), Fail> {
-    let mut text = Vec::from_slice(rt.alloc(), b"CERT 2\nFORMULA 1\n")?;
-    with_lines(&mut text, b"STEPS 0\n", 63)?;
-    with_lines(&mut text, b"SPLIT 0\n", 1)?;
-    with_lines(&mut text, b"LEAF 0\n", 2)?;
+    let text = above_split(rt.alloc(), 63)?;
     assert!(rt; fault_of(rt.alloc(), &text) == None);
-    let mut deeper = Vec::from_slice(rt.alloc(), b"CERT 2\nFORMULA 1\n")?;
-    with_lines(&mut deeper, b"SPLIT 0\n", 1)?;
-    with_lines(&mut deeper, b"STEPS 0\n", 64)?;
+    let deeper = below_split(rt.alloc(), 64)?;
     assert!(rt; fault_of(rt.alloc(), &deeper) == too_deep(529, 536));
     Ok(())
 }

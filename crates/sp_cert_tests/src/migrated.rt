@@ -82,13 +82,17 @@ fn text(alloc: Global, parts: &[&[u8]]) -> Result<Vec<u8>, Fail> {
     Ok(text)
 }
 
+// The same by a checker of its own.
+fn lifted_alone(alloc: Global, text: &[u8]) -> Result<Result<Vec<u8>, LiftFault>, Fail> {
+    let root = root(alloc)?;
+    lifted(alloc, &mut Checker::open(alloc, &root)?, text)
+}
+
 // Whether the tree of the one text is migrated to that of the other.
 fn is_lifted(alloc: Global, before: &[&[u8]], after: &[&[u8]]) -> Result<bool, Fail> {
     let before = text(alloc, before)?;
     let after = text(alloc, after)?;
-    let root = root(alloc)?;
-    let mut checker = Checker::open(alloc, &root)?;
-    match lifted(alloc, &mut checker, &before)? {
+    match lifted_alone(alloc, &before)? {
         Ok(out) => Ok(out.as_slice() == after.as_slice()),
         Err(_) => Ok(false),
     }
@@ -116,10 +120,7 @@ fn each_step_moves_as_high_as_it_can(rt: HostRuntime) -> Result<(), Fail> {
 
 // Whether the certificate of a text doesn't check, with this fault.
 fn is_refused(alloc: Global, before: &[u8], fault: CertFault) -> Result<bool, Fail> {
-    let root = root(alloc)?;
-    let mut checker = Checker::open(alloc, &root)?;
-    let refused = Some(LiftFault::Unchecked(fault));
-    Ok(lifted(alloc, &mut checker, before)?.err() == refused)
+    Ok(lifted_alone(alloc, before)?.err() == Some(LiftFault::Unchecked(fault)))
 }
 
 #[test]

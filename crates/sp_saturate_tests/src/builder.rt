@@ -42,6 +42,9 @@ impl From<LatticeFault> for Unbuilt {
     }
 }
 
+/// The head of a term, its arguments, and whether it is a level term.
+pub type Term = (Head, &'static [u16], bool);
+
 /// The terms of a formula, over the levels of a chain.
 #[derive(Drop)]
 pub struct Builder {
@@ -135,6 +138,17 @@ impl Builder {
             self.levels.push(is_level).map_err(|_| Memory)?;
         }
         Ok(term.0)
+    }
+
+    /// Puts these terms in, in order.
+    ///
+    /// # Errors
+    /// As those of `term`.
+    pub fn put(&mut self, terms: &[Term]) -> Result<(), Unbuilt> {
+        for (head, arguments, is_level) in terms {
+            self.term(*head, arguments, *is_level)?;
+        }
+        Ok(())
     }
 
     /// The formula with these hypotheses, this goal and these atoms.

@@ -1,6 +1,6 @@
 //! A formula with terms of each form, to test each rule.
 
-use crate::builder::{Builder, Unbuilt};
+use crate::builder::{Builder, Term, Unbuilt};
 use sp_pool::Head;
 use sp_values::{Op, Value};
 use std::alloc::Global;
@@ -100,93 +100,92 @@ pub const V_TIMES_3: u16 = 45;
 
 pub const UNKNOWN: u16 = 46;
 
+/// The LEVEL variables x, y and z, the bounds of x and y, and the constants of the levels.
+const LEVELS: [Term; 9] = [
+    (Head::Var(0), &[], true),
+    (Head::Var(1), &[], true),
+    (Head::Var(2), &[], true),
+    (Head::Two(Op::Lub), &[X, Y], true),
+    (Head::Two(Op::Glb), &[X, Y], true),
+    (Head::Const(Value::Level(0)), &[], true),
+    (Head::Const(Value::Level(1)), &[], true),
+    (Head::Const(Value::Level(2)), &[], true),
+    (Head::Const(Value::Level(3)), &[], true),
+];
+
+/// Comparisons of x, y and z.
+const COMPARISONS: [Term; 7] = [
+    (Head::Two(Op::Same), &[X, Y], false),
+    (Head::Two(Op::LevelLe), &[X, Y], false),
+    (Head::Two(Op::LevelLe), &[Y, X], false),
+    (Head::Two(Op::LevelLe), &[Y, Z], false),
+    (Head::Two(Op::LevelLe), &[X, Z], false),
+    (Head::Two(Op::LevelLe), &[Z, X], false),
+    (Head::Two(Op::LevelLe), &[Z, Y], false),
+];
+
+/// The BOOLEAN variables a, b and c, and what is made of a and b.
+const TRUTHS: [Term; 8] = [
+    (Head::Var(3), &[], false),
+    (Head::Var(4), &[], false),
+    (Head::Var(5), &[], false),
+    (Head::Not, &[A], false),
+    (Head::Two(Op::And), &[A, B], false),
+    (Head::Two(Op::Or), &[A, B], false),
+    (Head::If, &[A, X, Y], true),
+    (Head::If, &[A, X, X], true),
+];
+
+/// The INTEGER variables u, v and w, their equalities, and a function at u and at v.
+const INTEGERS: [Term; 8] = [
+    (Head::Var(6), &[], false),
+    (Head::Var(7), &[], false),
+    (Head::Var(8), &[], false),
+    (Head::Two(Op::Same), &[U, V], false),
+    (Head::Two(Op::Same), &[V, W], false),
+    (Head::Two(Op::Same), &[U, W], false),
+    (Head::Look(0), &[U], false),
+    (Head::Look(0), &[V], false),
+];
+
+/// Calculations with u, and their values where u is 2.
+const SUMS: [Term; 9] = [
+    (Head::Const(Value::Int(2)), &[], false),
+    (Head::Const(Value::Int(3)), &[], false),
+    (Head::Two(Op::Same), &[U, TWO], false),
+    (Head::Two(Op::Add), &[U, THREE], false),
+    (Head::Const(Value::Int(5)), &[], false),
+    (Head::Two(Op::Sub), &[U, THREE], false),
+    (Head::Const(Value::Int(-1)), &[], false),
+    (Head::Two(Op::Mul), &[U, THREE], false),
+    (Head::Const(Value::Int(6)), &[], false),
+];
+
+/// A product out of range, and its value `?`.
+const VALUES: [Term; 5] = [
+    (Head::Const(Value::Int(i64::MAX)), &[], false),
+    (Head::Two(Op::Same), &[V, GREATEST], false),
+    (Head::Two(Op::Mul), &[V, THREE], false),
+    (Head::Const(Value::Unknown), &[], false),
+    (Head::Two(Op::Mul), &[GREATEST, THREE], false),
+];
+
+// The terms are put into a borrowed builder, so that no step that fails has to let go of it.
+fn put_all(builder: &mut Builder) -> Result<(), Unbuilt> {
+    builder.put(&LEVELS)?;
+    builder.put(&COMPARISONS)?;
+    builder.put(&TRUTHS)?;
+    builder.put(&INTEGERS)?;
+    builder.put(&SUMS)?;
+    builder.put(&VALUES)
+}
+
 /// One formula with terms of each form: the terms of the constants above, from 2 on.
 ///
 /// # Errors
 /// As those of `Builder`.
 pub fn each_form(alloc: Global) -> Result<Builder, Unbuilt> {
     let mut builder = Builder::new(alloc)?;
-    put_levels(&mut builder)?;
-    put_comparisons(&mut builder)?;
-    put_truths(&mut builder)?;
-    put_integers(&mut builder)?;
-    put_sums(&mut builder)?;
-    put_values(&mut builder)?;
+    put_all(&mut builder)?;
     Ok(builder)
-}
-
-/// The LEVEL variables x, y and z, the bounds of x and y, and the constants of the levels.
-fn put_levels(builder: &mut Builder) -> Result<(), Unbuilt> {
-    builder.term(Head::Var(0), &[], true)?;
-    builder.term(Head::Var(1), &[], true)?;
-    builder.term(Head::Var(2), &[], true)?;
-    builder.term(Head::Two(Op::Lub), &[X, Y], true)?;
-    builder.term(Head::Two(Op::Glb), &[X, Y], true)?;
-    builder.term(Head::Const(Value::Level(0)), &[], true)?;
-    builder.term(Head::Const(Value::Level(1)), &[], true)?;
-    builder.term(Head::Const(Value::Level(2)), &[], true)?;
-    builder.term(Head::Const(Value::Level(3)), &[], true)?;
-    Ok(())
-}
-
-/// Comparisons of x, y and z.
-fn put_comparisons(builder: &mut Builder) -> Result<(), Unbuilt> {
-    builder.term(Head::Two(Op::Same), &[X, Y], false)?;
-    builder.term(Head::Two(Op::LevelLe), &[X, Y], false)?;
-    builder.term(Head::Two(Op::LevelLe), &[Y, X], false)?;
-    builder.term(Head::Two(Op::LevelLe), &[Y, Z], false)?;
-    builder.term(Head::Two(Op::LevelLe), &[X, Z], false)?;
-    builder.term(Head::Two(Op::LevelLe), &[Z, X], false)?;
-    builder.term(Head::Two(Op::LevelLe), &[Z, Y], false)?;
-    Ok(())
-}
-
-/// The BOOLEAN variables a, b and c, and what is made of a and b.
-fn put_truths(builder: &mut Builder) -> Result<(), Unbuilt> {
-    builder.term(Head::Var(3), &[], false)?;
-    builder.term(Head::Var(4), &[], false)?;
-    builder.term(Head::Var(5), &[], false)?;
-    builder.term(Head::Not, &[A], false)?;
-    builder.term(Head::Two(Op::And), &[A, B], false)?;
-    builder.term(Head::Two(Op::Or), &[A, B], false)?;
-    builder.term(Head::If, &[A, X, Y], true)?;
-    builder.term(Head::If, &[A, X, X], true)?;
-    Ok(())
-}
-
-/// The INTEGER variables u, v and w, their equalities, and a function at u and at v.
-fn put_integers(builder: &mut Builder) -> Result<(), Unbuilt> {
-    builder.term(Head::Var(6), &[], false)?;
-    builder.term(Head::Var(7), &[], false)?;
-    builder.term(Head::Var(8), &[], false)?;
-    builder.term(Head::Two(Op::Same), &[U, V], false)?;
-    builder.term(Head::Two(Op::Same), &[V, W], false)?;
-    builder.term(Head::Two(Op::Same), &[U, W], false)?;
-    builder.term(Head::Look(0), &[U], false)?;
-    builder.term(Head::Look(0), &[V], false)?;
-    Ok(())
-}
-
-/// Calculations with u, and their values where u is 2.
-fn put_sums(builder: &mut Builder) -> Result<(), Unbuilt> {
-    builder.term(Head::Const(Value::Int(2)), &[], false)?;
-    builder.term(Head::Const(Value::Int(3)), &[], false)?;
-    builder.term(Head::Two(Op::Same), &[U, TWO], false)?;
-    builder.term(Head::Two(Op::Add), &[U, THREE], false)?;
-    builder.term(Head::Const(Value::Int(5)), &[], false)?;
-    builder.term(Head::Two(Op::Sub), &[U, THREE], false)?;
-    builder.term(Head::Const(Value::Int(-1)), &[], false)?;
-    builder.term(Head::Two(Op::Mul), &[U, THREE], false)?;
-    builder.term(Head::Const(Value::Int(6)), &[], false)?;
-    Ok(())
-}
-
-/// A product out of range, and its value `?`.
-fn put_values(builder: &mut Builder) -> Result<(), Unbuilt> {
-    builder.term(Head::Const(Value::Int(i64::MAX)), &[], false)?;
-    builder.term(Head::Two(Op::Same), &[V, GREATEST], false)?;
-    builder.term(Head::Two(Op::Mul), &[V, THREE], false)?;
-    builder.term(Head::Const(Value::Unknown), &[], false)?;
-    builder.term(Head::Two(Op::Mul), &[GREATEST, THREE], false)?;
-    Ok(())
 }

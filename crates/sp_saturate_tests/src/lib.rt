@@ -4,7 +4,7 @@
 mod builder;
 mod worked;
 
-pub use builder::{Builder, Unbuilt};
+pub use builder::{Builder, Term, Unbuilt};
 pub use worked::{chain_of_equalities, reading};
 
 #[cfg(test)]

@@ -146,17 +146,30 @@ fn first_wrong(
     Ok(None)
 }
 
-#[test]
-fn each_rule_gives_its_fact_and_needs_each_premise(rt: HostRuntime) -> Result<(), Fail> {
-    let alloc = rt.alloc();
+/// All rows, and whether their facts are equalities.
+const TABLES: [(&[Row], bool); 6] = [
+    (&EQUALITIES, true),
+    (&NEGATIONS, true),
+    (&CONJUNCTIONS, true),
+    (&DISJUNCTIONS, true),
+    (&VALUES, true),
+    (&ORDERS, false),
+];
+
+// The same of all rows.
+fn first_wrong_of_all(alloc: Global) -> Result<Option<u8>, Unbuilt> {
     let builder = each_form(alloc)?;
-    assert_eq!(rt; first_wrong(alloc, &builder, &EQUALITIES, true)?, None);
-    assert_eq!(rt; first_wrong(alloc, &builder, &NEGATIONS, true)?, None);
-    assert_eq!(rt; first_wrong(alloc, &builder, &CONJUNCTIONS, true)?, None);
-    assert_eq!(rt; first_wrong(alloc, &builder, &DISJUNCTIONS, true)?, None);
-    assert_eq!(rt; first_wrong(alloc, &builder, &VALUES, true)?, None);
-    assert_eq!(rt; first_wrong(alloc, &builder, &ORDERS, false)?, None);
-    Ok(())
+    for (rows, equal) in &TABLES {
+        if let Some(rule) = first_wrong(alloc, &builder, rows, *equal)? {
+            return Ok(Some(rule));
+        }
+    }
+    Ok(None)
+}
+
+#[test]
+fn each_rule_gives_its_fact_and_needs_each_premise(rt: HostRuntime) {
+    assert_eq!(rt; first_wrong_of_all(rt.alloc()), Ok(None));
 }
 
 /// The number of a rule without premises, and two terms whose order follows; that of the second and the first doesn't.
@@ -179,41 +192,71 @@ fn first_wrong_order(facts: &Facts, rows: &[(u8, [u16; 2])]) -> Option<u8> {
     None
 }
 
+// Whether each term is itself, which is K1, and each level term is below itself, which is K7.
+fn are_reflexive(facts: &Facts) -> bool {
+    facts.holds(equal(U, U))
+        && !facts.holds(equal(U, V))
+        && facts.holds(below(X, X))
+        && !facts.holds(below(U, U))
+}
+
+// The formula over the terms of each form with these hypotheses, this goal and these atoms.
+fn of_forms(alloc: Global, hypotheses: &[u16], goal: u16, atoms: &[u16]) -> Result<Root, Unbuilt> {
+    each_form(alloc)?.root(hypotheses, goal, atoms)
+}
+
+fn free_facts_are_given(alloc: Global, root: &Root) -> Result<bool, Memory> {
+    let facts = Facts::open(alloc, root)?;
+    Ok(first_wrong_order(&facts, &FREE_ORDERS) == None && are_reflexive(&facts))
+}
+
 #[test]
 fn rules_without_premises_give_their_facts(rt: HostRuntime) -> Result<(), Fail> {
-    let root = each_form(rt.alloc())?.root(&[], C, &[])?;
-    let facts = Facts::open(rt.alloc(), &root)?;
-    assert_eq!(rt; first_wrong_order(&facts, &FREE_ORDERS), None);
-    // K1 and K7: each term is itself, and each level term is below itself.
-    assert!(rt; facts.holds(equal(U, U)) && !facts.holds(equal(U, V)));
-    assert!(rt; facts.holds(below(X, X)) && !facts.holds(below(U, U)));
+    let root = of_forms(rt.alloc(), &[], C, &[])?;
+    assert!(rt; free_facts_are_given(rt.alloc(), &root)?);
     Ok(())
+}
+
+fn chain_is_closed(facts: &Facts) -> bool {
+    facts.count() == 188_504
+        && facts.holds(Fact::Eq(2, 499))
+        && facts.holds(Fact::Eq(499, 2))
+        && facts.holds(Fact::Le(499, 2))
+        && !facts.holds(Fact::Eq(0, 2))
+        && facts.clash() == Some(Fact::Eq(0, 1))
 }
 
 #[test]
 fn a_long_chain_of_equalities_is_closed(rt: HostRuntime) -> Result<(), Fail> {
     let root = chain_of_equalities(rt.alloc(), 250)?;
-    assert_eq!(rt; root.terms().count(), 502);
-    let facts = Facts::open(rt.alloc(), &root)?;
-    assert_eq!(rt; facts.count(), 188_504);
-    assert!(rt; facts.holds(Fact::Eq(2, 499)) && facts.holds(Fact::Eq(499, 2)));
-    assert!(rt; facts.holds(Fact::Le(499, 2)) && !facts.holds(Fact::Eq(0, 2)));
-    assert_eq!(rt; facts.clash(), Some(Fact::Eq(0, 1)));
+    assert!(rt; root.terms().count() == 502);
+    assert!(rt; chain_is_closed(&Facts::open(rt.alloc(), &root)?));
     Ok(())
+}
+
+fn reading_is_closed(facts: &Facts) -> bool {
+    facts.clash() == None && facts.holds(Fact::Eq(8, 13)) && facts.holds(Fact::Eq(14, 1))
+}
+
+// Whether the steps are fewer than the facts.
+fn has_few_steps(alloc: Global, facts: &Facts) -> Result<bool, Memory> {
+    Ok(facts.steps(alloc)?.len() < facts.count() as usize)
+}
+
+fn is_closed_without_a_clash(alloc: Global, root: &Root) -> Result<bool, Memory> {
+    let facts = Facts::open(alloc, root)?;
+    Ok(reading_is_closed(&facts) && has_few_steps(alloc, &facts)?)
 }
 
 #[test]
 fn an_ordinary_formula_is_closed_without_a_clash(rt: HostRuntime) -> Result<(), Fail> {
     let root = reading(rt.alloc())?;
-    assert_eq!(rt; root.terms().count(), 22);
-    let facts = Facts::open(rt.alloc(), &root)?;
-    assert_eq!(rt; facts.clash(), None);
-    assert!(rt; facts.holds(Fact::Eq(8, 13)) && facts.holds(Fact::Eq(14, 1)));
-    assert!(rt; facts.steps(rt.alloc())?.len() < facts.count() as usize);
+    assert!(rt; root.terms().count() == 22);
+    assert!(rt; is_closed_without_a_clash(rt.alloc(), &root)?);
     Ok(())
 }
 
-/// Assumes a truth value of an atom, if there is this atom and fewer than 20 assumptions stand.
+// Assumes a truth value of an atom, if there is this atom and fewer than 20 assumptions stand.
 fn assume(facts: &mut Facts, atom: u16, truth: bool) -> bool {
     if (atom as usize) < facts.atoms().len() && facts.assumed().len() < 20 {
         facts.assume(atom, truth);
@@ -223,7 +266,7 @@ fn assume(facts: &mut Facts, atom: u16, truth: bool) -> bool {
     }
 }
 
-/// Takes the last assumption back, if there is one.
+// Takes the last assumption back, if there is one.
 fn back(facts: &mut Facts) -> bool {
     if facts.assumed().is_empty() {
         return false;
@@ -232,39 +275,81 @@ fn back(facts: &mut Facts) -> bool {
     true
 }
 
+// Whether a is known of two atoms a and b, and what follows from both.
+fn a_and_both(facts: &Facts) -> (bool, bool) {
+    (facts.holds(equal(A, 0)), facts.holds(equal(A_AND_B, 0)))
+}
+
+// Whether assumptions give what follows from them, while they stand.
+fn assumptions_are_taken_back(facts: &mut Facts) -> bool {
+    assume(facts, 0, true)
+        && a_and_both(facts) == (true, false)
+        && assume(facts, 1, true)
+        && a_and_both(facts) == (true, true)
+        && back(facts)
+        && a_and_both(facts) == (true, false)
+        && assume(facts, 1, false)
+        && facts.holds(equal(A_AND_B, 1))
+}
+
+// Whether two assumptions stand, and without them their facts are gone and the given ones are still there.
+fn nothing_is_left(facts: &mut Facts) -> bool {
+    back(facts)
+        && back(facts)
+        && !back(facts)
+        && !facts.holds(equal(A, 0))
+        && facts.holds(Fact::Le(2, 3))
+}
+
+fn all_is_as_before(alloc: Global, root: &Root) -> Result<bool, Memory> {
+    let mut facts = Facts::open(alloc, root)?;
+    let count = facts.count();
+    Ok(
+        assumptions_are_taken_back(&mut facts)
+            && nothing_is_left(&mut facts)
+            && facts.count() == count,
+    )
+}
+
 #[test]
 fn what_an_assumption_gave_is_gone_after_back(rt: HostRuntime) -> Result<(), Fail> {
-    let root = each_form(rt.alloc())?.root(&[X_LE_Y], C, &[A, B])?;
-    let mut facts = Facts::open(rt.alloc(), &root)?;
-    let count = facts.count();
-    let both = equal(A_AND_B, 0);
-    assert!(rt; assume(&mut facts, 0, true) && facts.holds(equal(A, 0)) && !facts.holds(both));
-    assert!(rt; assume(&mut facts, 1, true) && facts.holds(both));
-    assert!(rt; back(&mut facts) && !facts.holds(both) && facts.holds(equal(A, 0)));
-    assert!(rt; assume(&mut facts, 1, false) && facts.holds(equal(A_AND_B, 1)));
-    assert!(rt; back(&mut facts) && back(&mut facts) && !back(&mut facts));
-    assert!(rt; !facts.holds(equal(A, 0)) && facts.holds(Fact::Le(2, 3)));
-    assert_eq!(rt; facts.count(), count);
+    let root = of_forms(rt.alloc(), &[X_LE_Y], C, &[A, B])?;
+    assert!(rt; all_is_as_before(rt.alloc(), &root)?);
     Ok(())
+}
+
+// Whether 20 assumptions can be made and no other, and then be taken back.
+fn twenty_stand(facts: &mut Facts) -> bool {
+    for _ in 0..20 {
+        if !assume(facts, 1, true) {
+            return false;
+        }
+    }
+    if assume(facts, 0, true) {
+        return false;
+    }
+    for _ in 0..20 {
+        if !back(facts) {
+            return false;
+        }
+    }
+    true
+}
+
+fn twenty_leave_nothing(alloc: Global, root: &Root) -> Result<bool, Memory> {
+    let mut facts = Facts::open(alloc, root)?;
+    let count = facts.count();
+    Ok(twenty_stand(&mut facts) && facts.count() == count)
 }
 
 #[test]
 fn twenty_assumptions_stand_at_once(rt: HostRuntime) -> Result<(), Fail> {
-    let root = each_form(rt.alloc())?.root(&[], C, &[A, B])?;
-    let mut facts = Facts::open(rt.alloc(), &root)?;
-    let count = facts.count();
-    for _ in 0..20 {
-        assert!(rt; assume(&mut facts, 1, true));
-    }
-    assert!(rt; !assume(&mut facts, 0, true));
-    for _ in 0..20 {
-        assert!(rt; back(&mut facts));
-    }
-    assert_eq!(rt; facts.count(), count);
+    let root = of_forms(rt.alloc(), &[], C, &[A, B])?;
+    assert!(rt; twenty_leave_nothing(rt.alloc(), &root)?);
     Ok(())
 }
 
-/// The last of the steps, if it is a clash, and how many there are.
+// The last of the steps, if it is a clash, and how many there are.
 fn end_of_steps(alloc: Global, root: &Root) -> Result<Option<(Fact, usize)>, Memory> {
     let steps = Facts::open(alloc, root)?.steps(alloc)?;
     let Some(last) = steps.last() else {
@@ -278,20 +363,24 @@ fn end_of_steps(alloc: Global, root: &Root) -> Result<Option<(Fact, usize)>, Mem
     })
 }
 
+// The same of a formula over the terms of each form.
+fn end_of(alloc: Global, hypotheses: &[u16], goal: u16) -> Result<Option<(Fact, usize)>, Unbuilt> {
+    let root = of_forms(alloc, hypotheses, goal, &[])?;
+    Ok(end_of_steps(alloc, &root)?)
+}
+
 #[test]
 fn steps_are_those_behind_the_clash(rt: HostRuntime) -> Result<(), Fail> {
-    let builder = each_form(rt.alloc())?;
     // u = v and v = w, so u = w, which is denied.
-    let root = builder.root(&[U_IS_V, V_IS_W], U_IS_W, &[])?;
-    let end = end_of_steps(rt.alloc(), &root)?;
-    assert!(rt;
-        matches!(end, Some((Fact::Eq(0, 1) | Fact::Eq(1, 0), 5 | 6))),
-        "{end:?}"
-    );
-    // A given fact that is a clash is turned round.
-    let root = builder.root(&[], TRUE, &[])?;
-    assert_eq!(rt; end_of_steps(rt.alloc(), &root)?, Some((Fact::Eq(1, 0), 1)));
-    let root = builder.root(&[A], C, &[])?;
-    assert_eq!(rt; end_of_steps(rt.alloc(), &root)?, None);
+    let end = end_of(rt.alloc(), &[U_IS_V, V_IS_W], U_IS_W)?;
+    assert!(rt; matches!(end, Some((Fact::Eq(0, 1) | Fact::Eq(1, 0), 5 | 6))));
+    Ok(())
+}
+
+#[test]
+fn a_given_clash_is_turned_round(rt: HostRuntime) -> Result<(), Fail> {
+    let end = end_of(rt.alloc(), &[], TRUE)?;
+    assert!(rt; end == Some((Fact::Eq(1, 0), 1)));
+    assert!(rt; end_of(rt.alloc(), &[A], C)? == None);
     Ok(())
 }

@@ -1,18 +1,18 @@
 //! Two formulas: one whose closure is large, and an ordinary one.
 
-use crate::builder::{Builder, Unbuilt};
+use crate::builder::{Builder, Term, Unbuilt};
 use sp_pool::Head;
 use sp_rules::Root;
 use sp_values::Op;
 use std::alloc::Global;
 
-/// `x0 = x1`, `x1 = x2` and so on, and the goal `x0 = ` the last one, over this many LEVEL variables, at least two: a
-/// formula of twice as many terms and two.
-///
-/// # Errors
-/// As those of `Builder`.
-pub fn chain_of_equalities(alloc: Global, variables: u16) -> Result<Root, Unbuilt> {
-    let mut builder = Builder::new(alloc)?;
+// The hypotheses and the goal of a chain of equalities. The terms are put into a borrowed builder, so that no step that
+// fails has to let go of it.
+fn put_chain(
+    alloc: Global,
+    builder: &mut Builder,
+    variables: u16,
+) -> Result<(Vec<u16>, u16), Unbuilt> {
     let mut hypotheses = Vec::new(alloc);
     let first = builder.term(Head::Var(0), &[], true)?;
     let mut last = first;
@@ -23,8 +23,48 @@ pub fn chain_of_equalities(alloc: Global, variables: u16) -> Result<Root, Unbuil
         last = next;
     }
     let goal = builder.term(Head::Two(Op::Same), &[first, last], false)?;
+    Ok((hypotheses, goal))
+}
+
+/// `x0 = x1`, `x1 = x2` and so on, and the goal `x0 = ` the last one, over this many LEVEL variables, at least two: a
+/// formula of twice as many terms and two.
+///
+/// # Errors
+/// As those of `Builder`.
+pub fn chain_of_equalities(alloc: Global, variables: u16) -> Result<Root, Unbuilt> {
+    let mut builder = Builder::new(alloc)?;
+    let (hypotheses, goal) = put_chain(alloc, &mut builder, variables)?;
     builder.root(&hypotheses, goal, &[])
 }
+
+/// The terms of the formula below, from 2 on.
+const READING: [Term; 20] = [
+    // l, m, u, v and w.
+    (Head::Var(0), &[], true),
+    (Head::Var(1), &[], true),
+    (Head::Var(2), &[], false),
+    (Head::Var(3), &[], false),
+    (Head::Var(4), &[], false),
+    // 7: l <= m, 8: f(u), 9: f(u) <= l, then NOT of this, and 11: both.
+    (Head::Two(Op::LevelLe), &[2, 3], false),
+    (Head::Look(0), &[4], true),
+    (Head::Two(Op::LevelLe), &[8, 2], false),
+    (Head::Not, &[9], false),
+    (Head::Two(Op::And), &[7, 10], false),
+    // 12: u = v, 13: f(v), 14: f(v) <= m, and 15: both.
+    (Head::Two(Op::Same), &[4, 5], false),
+    (Head::Look(0), &[5], true),
+    (Head::Two(Op::LevelLe), &[13, 3], false),
+    (Head::Two(Op::And), &[14, 12], false),
+    // 16 and 17: g(w) and 'g(w), 18: their equality, and 19: either.
+    (Head::Look(1), &[6], false),
+    (Head::New(1), &[6], false),
+    (Head::Two(Op::Same), &[16, 17], false),
+    (Head::Two(Op::Or), &[15, 18], false),
+    // 20: l = f(u), and 21: the goal.
+    (Head::Two(Op::Same), &[2, 8], false),
+    (Head::Two(Op::Or), &[19, 20], false),
+];
 
 /// A formula of 22 terms, as those of an operation that may read. With the levels `l` and `m`, the integers `u`, `v` and
 /// `w`, and the V-functions `f` and `g`, its hypotheses are `l <= m AND NOT f(u) <= l` and `u = v`, and its goal is
@@ -34,37 +74,6 @@ pub fn chain_of_equalities(alloc: Global, variables: u16) -> Result<Root, Unbuil
 /// As those of `Builder`.
 pub fn reading(alloc: Global) -> Result<Root, Unbuilt> {
     let mut builder = Builder::new(alloc)?;
-    let l = builder.term(Head::Var(0), &[], true)?;
-    let m = builder.term(Head::Var(1), &[], true)?;
-    let u = builder.term(Head::Var(2), &[], false)?;
-    let v = builder.term(Head::Var(3), &[], false)?;
-    let w = builder.term(Head::Var(4), &[], false)?;
-    let below = builder.term(Head::Two(Op::LevelLe), &[l, m], false)?;
-    let seen = builder.term(Head::Look(0), &[u], true)?;
-    let seen_below = builder.term(Head::Two(Op::LevelLe), &[seen, l], false)?;
-    let hidden = builder.term(Head::Not, &[seen_below], false)?;
-    let first = builder.term(Head::Two(Op::And), &[below, hidden], false)?;
-    let same = builder.term(Head::Two(Op::Same), &[u, v], false)?;
-    let goal = reading_goal(&mut builder, [l, m, v, w], same, seen)?;
-    let atoms = [below, seen_below, same];
-    builder.root(&[first, same], goal, &atoms)
-}
-
-/// The goal of that formula, over l, m, v, w, the term `u = v` and the term `f(u)`.
-fn reading_goal(
-    builder: &mut Builder,
-    variables: [u16; 4],
-    same: u16,
-    seen: u16,
-) -> Result<u16, Unbuilt> {
-    let [l, m, v, w] = variables;
-    let other = builder.term(Head::Look(0), &[v], true)?;
-    let other_below = builder.term(Head::Two(Op::LevelLe), &[other, m], false)?;
-    let both = builder.term(Head::Two(Op::And), &[other_below, same], false)?;
-    let old = builder.term(Head::Look(1), &[w], false)?;
-    let new = builder.term(Head::New(1), &[w], false)?;
-    let unchanged = builder.term(Head::Two(Op::Same), &[old, new], false)?;
-    let either = builder.term(Head::Two(Op::Or), &[both, unchanged], false)?;
-    let same_level = builder.term(Head::Two(Op::Same), &[l, seen], false)?;
-    builder.term(Head::Two(Op::Or), &[either, same_level], false)
+    builder.put(&READING)?;
+    builder.root(&[11, 12], 21, &[7, 9, 12])
 }

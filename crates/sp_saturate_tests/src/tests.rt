@@ -5,7 +5,7 @@ use crate::forms::{
     X_OR_ELSE_Y, Y, Y_LE_X, Y_LE_Z, Z, Z_LE_X, Z_LE_Y, each_form,
 };
 use crate::{Builder, Unbuilt, chain_of_equalities, reading};
-use sp_rules::{Fact, Root, clashes};
+use sp_rules::{Fact, Root, Step, clashes};
 use sp_saturate::Facts;
 use sp_text::Memory;
 use std::alloc::Global;
@@ -226,11 +226,16 @@ fn chain_is_closed(facts: &Facts) -> bool {
         && facts.clash() == Some(Fact::Eq(0, 1))
 }
 
+fn is_closed_chain(alloc: Global, root: &Root) -> Result<bool, Memory> {
+    let facts = Facts::open(alloc, root)?;
+    Ok(chain_is_closed(&facts))
+}
+
 #[test]
 fn a_long_chain_of_equalities_is_closed(rt: HostRuntime) -> Result<(), Fail> {
     let root = chain_of_equalities(rt.alloc(), 250)?;
     assert!(rt; root.terms().count() == 502);
-    assert!(rt; chain_is_closed(&Facts::open(rt.alloc(), &root)?));
+    assert!(rt; is_closed_chain(rt.alloc(), &root)?);
     Ok(())
 }
 
@@ -349,9 +354,14 @@ fn twenty_assumptions_stand_at_once(rt: HostRuntime) -> Result<(), Fail> {
     Ok(())
 }
 
+fn steps_of(alloc: Global, root: &Root) -> Result<Vec<Step>, Memory> {
+    let facts = Facts::open(alloc, root)?;
+    facts.steps(alloc)
+}
+
 // The last of the steps, if it is a clash, and how many there are.
 fn end_of_steps(alloc: Global, root: &Root) -> Result<Option<(Fact, usize)>, Memory> {
-    let steps = Facts::open(alloc, root)?.steps(alloc)?;
+    let steps = steps_of(alloc, root)?;
     let Some(last) = steps.last() else {
         return Ok(None);
     };

@@ -1,5 +1,5 @@
 -- A text stands for one assertion or function at most, and texts for one list of them.
-use Rattle.std.proofs.Common.{◌≡◌, refl, sym, ◌∙◌, ap, ℕ, suc, List, [], ◌∷◌, Bool, Option, Some, None}
+use Rattle.std.proofs.Common.{◌≡◌, refl, sym, ◌∙◌, ap, ℕ, suc, List, [], ◌∷◌, Option, Some, None}
 use Rattle.sp_tree.specs.declared.expr.ExprTree.{ExprTree}
 use Rattle.sp_tree.specs.declared.interface.Equation.{Equation}
 use Rattle.sp_tree.specs.declared.module.Body.{Body}
@@ -9,7 +9,6 @@ use Rattle.sp_tree.specs.declared.names.Ident.{Ident}
 use Rattle.sp_core.specs.declared.expr.Expr.{Expr}
 use Rattle.sp_core.specs.declared.function.Assertion.{Assertion}
 use Rattle.sp_core.specs.declared.function.Effect.{Effect}
-use Rattle.sp_core.specs.declared.function.Formal.{Formal}
 use Rattle.sp_core.specs.declared.function.Function.{Function}
 use Rattle.sp_core.specs.declared.function.Kind.{Kind}
 use Rattle.sp_core.specs.declared.function.Kind.TheVariants as kind

@@ -1,13 +1,9 @@
 -- Trees stand for one specification at most.
 use Rattle.std.proofs.Common.{◌≡◌, sym, ◌∙◌, subst, ℕ, List}
-use Rattle.sp_lattice.specs.Order.{IsLatticeOrder, Order}
+use Rattle.sp_lattice.specs.Order.{IsLatticeOrder}
 use Rattle.sp_lattice.proofs.OrderLaws.{one_order}
 use Rattle.sp_tree.specs.declared.interface.InterfaceTree.{InterfaceTree}
 use Rattle.sp_tree.specs.declared.module.Module.{Module}
-use Rattle.sp_core.specs.declared.function.Assertion.{Assertion}
-use Rattle.sp_core.specs.declared.function.Function.{Function}
-use Rattle.sp_core.specs.declared.function.Param.{Param}
-use Rattle.sp_core.specs.declared.function.TypeInfo.{TypeInfo}
 use Rattle.sp_core.specs.Parts.{Parts}
 use Rattle.sp_scopes.specs.declared.scopes.Scopes.{Scopes}
 use Rattle.sp_scopes.specs.Scopes.{scopes_of}
@@ -15,8 +11,8 @@ use Rattle.sp_elaborate.specs.Views.{view}
 use Rattle.sp_order.specs.Orders.{IsLower, KeepsLattice, level_count}
 use Rattle.sp_order.proofs.Ends.{kept, one_bottom, one_top}
 use Rattle.sp_specification.specs.Ends.{whole_view}
-use Rattle.sp_specification.specs.Meaning.{IsMeant, IsSpecOf, assertion_texts, function_texts}
-use Rattle.sp_one_spec.specs.Laws.{IsAnswerOf, OneAnswerLaw, OneSpecLaw}
+use Rattle.sp_specification.specs.Meaning.{IsMeant, assertion_texts, function_texts}
+use Rattle.sp_one_spec.specs.Laws.{OneAnswerLaw, OneSpecLaw}
 use Rattle.sp_one_spec.proofs.Functions.{one_assertions, one_functions}
 
 -- between the same ends
@@ -30,7 +26,7 @@ one_meaning s bottom top i ms p q h k l m =
     let params : p.params ≡ q.params = h.params ∙ sym k.params in
     let assertions : p.assertions ≡ q.assertions = one_assertions (λ n. view s n bottom top) (assertion_texts ms) p.assertions q.assertions h.assertions k.assertions in
     let functions : p.functions ≡ q.functions =
-        one_functions (λ n. view s n bottom top) (whole_view s bottom top) i.levels 0 (function_texts ms) p.functions q.functions h.functions k.functions in
+    one_functions (λ n. view s n bottom top) (whole_view s bottom top) i.levels 0 (function_texts ms) p.functions q.functions h.functions k.functions in
     λ j. record {
       name = names j;
       lattice = lattices j;

@@ -18,11 +18,11 @@ use Rattle.sp_scopes.specs.declared.lent.LevelOrder.{LevelOrder}
 use Rattle.sp_scopes.specs.declared.scopes.Scopes.{Scopes}
 use Rattle.sp_scopes.specs.Interfaces.{scopes_broken}
 use Rattle.sp_scopes.specs.Scopes.{scopes_of}
-use Rattle.sp_order.specs.Orders.{ArePairsOf, IsLower, KeepsLattice, Lattice, count_of}
+use Rattle.sp_order.specs.Orders.{ArePairsOf, Flawed, IsLower, KeepsLattice, Lattice, count_of}
 use Rattle.sp_ordered.specs.declared.judging.Judgement.{Judgement}
 use Rattle.sp_ordered.specs.declared.judging.Judgement.TheVariants as judgement
 use Rattle.sp_ordered.specs.Judgements.{IsLatticeOf, IsTold, IsToldOf}
-use Rattle.sp_specification.specs.Orders.{IsOrderJudged, Judged, alone, headers_broken, keyword}
+use Rattle.sp_specification.specs.Orders.{IsOrderJudged, Judged, Unjudged, alone, headers_broken, keyword}
 use Rattle.sp_ordered.proofs.Judged.{judged_flaw, judged_lattice, unjudged}
 use Rattle.sp_ordered.proofs.Levels.{alone_fine, one_naming, one_order}
 
@@ -96,3 +96,9 @@ told_of {E} i k s r own h is t = by r (subst (λ s. IfOk r (IsToldOf s)) (is ∙
     by (Ok (judgement.Flawed q)) t = (fine, t)
     by (Ok judgement.Unjudged) t = absurd t
     by (Err e) t = t
+
+-- the order breaks some list, of which something is told
+pub told_some : (i : InterfaceTree) (j : Judgement) → IsTold i j → (vs : List Violation) × IsOrderJudged i vs
+told_some i (judgement.Kept o) t = ([], Judged [] t.0 (Lattice t.1.kept))
+told_some i (judgement.Flawed r) t = (breaks (keyword i.lattice) r, Judged (breaks (keyword i.lattice) r) t.0 (Flawed r t.1))
+told_some i judgement.Unjudged t = ([], Unjudged t)

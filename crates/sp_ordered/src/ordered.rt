@@ -1,8 +1,9 @@
 //! The names of an interface and its modules, with the lattice of its levels.
 
-ghost use Rattle.std.specs.Prelude.{◌≡◌, [], ◌++◌, List, IfOk, IfSome, Some};
+ghost use Rattle.std.specs.Prelude.{◌≡◌, ◌≢◌, [], ◌++◌, Err, List, IfOk, IfSome, Some};
 ghost use Rattle.sp_text.specs.Violations.{JudgesFiles, NamesInFile, first_in_files};
 ghost use Rattle.sp_text.specs.Violations as violations;
+ghost use Rattle.sp_text.specs.declared.fault.SpecFault.{SpecFault as FaultValue};
 ghost use Rattle.sp_text.specs.declared.fault.TextFault.TheVariants as fault;
 ghost use Rattle.sp_text.specs.declared.violation.FileViolation.{FileViolation as FileValue};
 ghost use Rattle.sp_text.specs.declared.violation.Violation.{Violation as Value};
@@ -110,6 +111,7 @@ pub fn order_names(
     ensures ends { IfOk result (λ r. AreEnds r.scopes (bottom_level r.lattice) (top_level r.lattice)) }
     ensures kept { IfOk result (λ r. KeepsLattice r.scopes) }
     ensures fine { IfOk result (λ r. IsOrderJudged interface.now []) }
+    ensures found { ((f : FaultValue) → result ≡ Err f → f.fault ≢ fault.Memory) → (o : List Value) × IsOrderJudged interface.now o }
 {
     let order = match judge_order(alloc, interface) {
         Ok(order) => order,

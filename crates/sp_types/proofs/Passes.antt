@@ -1,5 +1,5 @@
 -- The first pass, and those that come after it where it finds nothing.
-use Rattle.std.proofs.Common.{◌≡◌, ℕ, sym, ◌∙◌, subst, List, [], ◌∷◌}
+use Rattle.std.proofs.Common.{◌≡◌, ◌≢◌, refl, ap, ℕ, sym, ◌∙◌, subst, List, [], ◌∷◌}
 use Rattle.std.specs.Prelude.{Option, Some, None, is_some, IsTrue, Result, Err}
 use Rattle.sp_text.specs.declared.fault.SpecFault.{SpecFault}
 use Rattle.sp_text.specs.declared.fault.TextFault.{TextFault}
@@ -55,3 +55,24 @@ pub nothing_left : (i : InterfaceTree) (ms : List Module) (s : Scopes) (b t bott
     None ≡ first_in_files (behind (bodies_broken s b t ms) (ends_broken s b t i ms)) → rest_broken i ms bottom top ≡ []
 nothing_left i ms s b t bottom top es eb et h =
     sym (rest_is i ms s b t bottom top es eb et) ∙ first_by_none sooner_in_files (behind (bodies_broken s b t ms) (ends_broken s b t i ms)) (sym h)
+
+-- what a fault of names, headers or the order names is one of all that is broken
+pub headers_found : (i : InterfaceTree) (ms : List Module) (o : List Violation) (f : SpecFault) → IsOrderJudged i o → f.fault ≢ fault.Memory →
+    NamesInFile (headers_broken i ms o) f.file f.fault → (vs : List FileViolation) × AreBroken i ms vs
+headers_found i ms o f j lost n = by (headers_broken i ms o) refl n
+  where
+    none : (t : TextFault) → t ≢ fault.Memory → NamesInFile [] f.file t → ⊥
+    none (fault.Malformed m) l e = cc e
+    none (fault.Limit m) l e = cc e
+    none fault.Memory l e = l refl
+
+    by : (xs : List FileViolation) → headers_broken i ms o ≡ xs → NamesInFile xs f.file f.fault → (vs : List FileViolation) × AreBroken i ms vs
+    by [] e m = absurd (none f.fault lost m)
+    by (v ∷ vs) e m = (v ∷ vs, Headers o v vs j e)
+
+-- a fault is the same, whatever else might have been answered
+pub same_fault : {A B : Type 0} (f g : SpecFault) → ◌≡◌ {A = Result A SpecFault} (Err f) (Err g) → ◌≡◌ {A = Result B SpecFault} (Err f) (Err g)
+same_fault f g e = ap Err (by e)
+  where
+    by : {C : Type 0} → ◌≡◌ {A = Result C SpecFault} (Err f) (Err g) → f ≡ g
+    by h = cc h

@@ -1,6 +1,7 @@
 //! The specification of an interface and its modules.
 
-ghost use Rattle.std.specs.Prelude.{◌≡◌, ℕ, List, [], IfOk};
+ghost use Rattle.std.specs.Prelude.{◌≡◌, ◌≢◌, Err, List, [], IfOk};
+ghost use Rattle.sp_text.specs.declared.fault.SpecFault.{SpecFault as FaultValue};
 ghost use Rattle.sp_text.specs.declared.fault.TextFault.TheVariants as fault;
 ghost use Rattle.sp_text.specs.declared.violation.FileViolation.{FileViolation};
 ghost use Rattle.sp_text.specs.Violations.{JudgesFiles};
@@ -112,7 +113,8 @@ pub fn elaborate(
     interface: &InterfaceTree,
     modules: &[Module],
 ) -> Result<(Spec, Scopes), SpecFault>
-    ensures { (vs : List FileViolation) → AreBroken interface.now modules.now vs → JudgesFiles vs (IsElaborated interface.now modules.now) result }
+    ensures judges { (vs : List FileViolation) → AreBroken interface.now modules.now vs → JudgesFiles vs (IsElaborated interface.now modules.now) result }
+    ensures found { ((f : FaultValue) → result ≡ Err f → f.fault ≢ fault.Memory) → (vs : List FileViolation) × AreBroken interface.now modules.now vs }
 {
     match order_names(alloc, interface, modules) {
         Ok(names) => elaborate_ordered(alloc, names, interface, modules),

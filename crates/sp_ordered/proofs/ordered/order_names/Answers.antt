@@ -1,8 +1,8 @@
-use Rattle.std.proofs.Common.{◌∙◌, ap}
+use Rattle.std.proofs.Common.{◌∙◌, ap, refl}
 use Rattle.sp_text.specs.Violations.{in_file}
 use Rattle.sp_scopes.specs.Interfaces.{scopes_broken}
 use Rattle.sp_order.proofs.Ends.{ends}
-use Rattle.sp_ordered.proofs.Told.{first_flaw, headers_fine, told_fine, told_flaw, told_judged, told_nothing, told_whole}
+use Rattle.sp_ordered.proofs.Told.{first_flaw, headers_fine, told_fine, told_flaw, told_judged, told_nothing, told_some, told_whole}
 use Rattle.sp_ordered.proofs.ordered.order_names.Goals as goal
 
 pub returns-in-Kept-clause-judged : goal.returns-in-Kept-clause-judged
@@ -44,3 +44,15 @@ returns-in-Kept-clause-ends c =
 
 pub unreachable-requires : goal.unreachable-requires
 unreachable-requires c = told_judged c.args.interface.now c.args.modules.now c.in-Ok.order c.in-Ok.ensures c.in-Ok-declare.ensures.0 c.in-Unjudged.is
+
+pub returns-in-Err-clause-found : goal.returns-in-Err-clause-found
+returns-in-Err-clause-found c = λ lost. absurd (lost c.out_of_memory.result refl c.out_of_memory.ensures)
+
+pub returns-in-Kept-clause-found : goal.returns-in-Kept-clause-found
+returns-in-Kept-clause-found c = λ lost. told_some c.args.interface.now c.in-Ok.order c.in-Ok.ensures
+
+pub returns-in-Flawed-clause-found : goal.returns-in-Flawed-clause-found
+returns-in-Flawed-clause-found c = λ lost. told_some c.args.interface.now c.in-Ok.order c.in-Ok.ensures
+
+pub returns-in-Err-declare-clause-found : goal.returns-in-Err-declare-clause-found
+returns-in-Err-declare-clause-found c = λ lost. told_some c.args.interface.now c.in-Ok.order c.in-Ok.ensures

@@ -354,6 +354,31 @@ fn twenty_assumptions_stand_at_once(rt: HostRuntime) -> Result<(), Fail> {
     Ok(())
 }
 
+// Whether a truth value of an atom is refuted; else it is assumed, if there is this atom and there is room.
+fn refutes(alloc: Global, facts: &mut Facts, atom: u16, truth: bool) -> Result<bool, Memory> {
+    if (atom as usize) < facts.atoms().len() && facts.assumed().len() < 20 {
+        return Ok(facts.refute(alloc, atom, truth)?.is_some());
+    }
+    Ok(false)
+}
+
+// Whether one truth value of B is refuted, which leaves all as it was, and the other one assumed.
+fn one_is_refuted(alloc: Global, root: &Root) -> Result<bool, Memory> {
+    let mut facts = Facts::open(alloc, root)?;
+    let count = facts.count();
+    let is_refuted = refutes(alloc, &mut facts, 1, false)?;
+    let is_same = facts.assumed().is_empty() && facts.count() == count;
+    let is_assumed = !refutes(alloc, &mut facts, 1, true)? && facts.assumed().len() == 1;
+    Ok(is_refuted && is_same && is_assumed)
+}
+
+#[test]
+fn a_truth_value_is_refuted_or_assumed(rt: HostRuntime) -> Result<(), Fail> {
+    let root = of_forms(rt.alloc(), &[A_AND_B], C, &[A, B])?;
+    assert!(rt; one_is_refuted(rt.alloc(), &root)?);
+    Ok(())
+}
+
 fn steps_of(alloc: Global, root: &Root) -> Result<Vec<Step>, Memory> {
     let facts = Facts::open(alloc, root)?;
     facts.steps(alloc)

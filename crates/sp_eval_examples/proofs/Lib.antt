@@ -1,2 +1,3 @@
 mod ClearanceLemmas
+mod ClearanceInstances
 mod CountingLemmas

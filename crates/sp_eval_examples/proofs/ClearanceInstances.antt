@@ -1,9 +1,8 @@
 -- Users, and tables that give one level everywhere, are an instance of the specification of clearances.
 use Rattle.std.proofs.Common.{◌≡◌, sym, ◌∙◌, ap, subst, arith, refl, ℕ, zero, suc, ◌≤◌, List, [], ◌∷◌, length, None, Some}
-use Rattle.std.specs.Prelude.{IsTrue, codes, slice_get}
+use Rattle.std.specs.Prelude.{IsTrue, slice_get}
 use Rattle.std.proofs.lemmas.List.Elements.{All-nil}
 use Rattle.sp_lattice.specs.Order.{Order}
-use Rattle.sp_values.specs.declared.value.Ty.{Ty}
 use Rattle.sp_values.specs.declared.value.Ty.TheVariants as ty
 use Rattle.sp_values.specs.declared.value.Value.TheVariants as value
 use Rattle.sp_values.specs.Domains.{Sizes, are_values, is_value}

@@ -1,0 +1,3 @@
+pub mod Texts
+pub mod Sorts
+pub mod Levels

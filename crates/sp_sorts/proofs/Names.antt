@@ -80,14 +80,14 @@ module _ (ts : List Token) (names : HaveTextNames ts) (b : ℕ) where
   ident_text x i j h = token_at ts i x.name x.span names h.0
 
   more_text : (xs : List Ident) (i j : ℕ) → all_whole (meaning {R = ⊥} (behind comma form.name) no_form ts b) xs i j → All (λ (x : Ident). IsUtf8 x.name) xs
-  more_text [] i j h = All-nil
+  more_text [] i j h = All-nil (λ (y : Ident). IsUtf8 y.name)
   more_text (x ∷ xs) i j (k, one, rest) =
-      All-cons (subst (λ (y : Ident). IsUtf8 y.name) (sym one.1) (ident_text one.0.1 one.2.0 k one.2.2)) (more_text xs k j rest)
+      All-cons (λ (y : Ident). IsUtf8 y.name) x xs (subst (λ (y : Ident). IsUtf8 y.name) (sym one.1) (ident_text one.0.1 one.2.0 k one.2.2)) (more_text xs k j rest)
 
   list_text : (xs : List Ident) (i j : ℕ) → (meaning names_line no_form ts b).whole xs i j → All (λ (x : Ident). IsUtf8 x.name) xs
   unfolding names_line
   list_text xs i j (p, e, (k, first, more)) =
-      subst (λ (ys : List Ident). All (λ (x : Ident). IsUtf8 x.name) ys) (sym e) (All-cons (ident_text p.0 i k first) (more_text p.1 k j more))
+      subst (λ (ys : List Ident). All (λ (x : Ident). IsUtf8 x.name) ys) (sym e) (All-cons (λ (y : Ident). IsUtf8 y.name) p.0 p.1 (ident_text p.0 i k first) (more_text p.1 k j more))
 
 module _ (ts : List Token) (names : HaveTextNames ts) (t : InterfaceTree) where
   modules_text : IsRead (interface_line ts) ts t → All (λ (x : Ident). IsUtf8 x.name) t.modules

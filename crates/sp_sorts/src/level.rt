@@ -10,9 +10,7 @@ ghost use Rattle.sp_sorts.specs.Levels.{LevelJudged, LevelRead, level_of};
 
 use crate::reading::lexed;
 use sp_frame::{Refusal, Stop, judged};
-use sp_text::{
-    Keyword, MOST_FILE_BYTES, Malformed, Name, Rule, Span, TextFault, Token, TokenKind,
-};
+use sp_text::{Keyword, MOST_FILE_BYTES, Malformed, Name, Rule, Span, TextFault, Token, TokenKind};
 use std::alloc::Global;
 
 /// The level that the word is, of the levels of these names in order; `least` and `greatest` are called BOTTOM and TOP.

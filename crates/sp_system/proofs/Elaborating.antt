@@ -35,10 +35,13 @@ module _ (i : InterfaceTree) (ms : List Module) where
         record {
           all = b.0;
           broken = record { broken = b.1; only = λ ws h. one_list i ms ws b.0 h b.1 };
-          judges = (j.0, record {
-            spec = record { meant = j.1.0; well_formed = formed; only = λ q h w. one_spec i ms q x.0 h j.1.0 w formed };
-            scopes = j.1.1;
-          });
+          judges = (
+            j.0,
+            record {
+              spec = record { meant = j.1.0; well_formed = formed; only = λ q h w. one_spec i ms q x.0 h j.1.0 w formed };
+              scopes = j.1.1;
+            },
+          );
           definite = λ f e. absurd cc;
         }
     elaborates (Err f) found judges formed = λ is.

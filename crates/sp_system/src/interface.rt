@@ -33,7 +33,12 @@ pub fn judge_interface(
 ) -> Result<Elaborated, Stop>
     ensures { Does (InterfaceJudged file.now interface.now modules.now) result }
 {
-    filed(alloc, file, interface, elaborated(alloc, interface, modules))
+    filed(
+        alloc,
+        file,
+        interface,
+        elaborated(alloc, interface, modules),
+    )
 }
 
 // The answer of `elaborate`.

@@ -1,6 +1,6 @@
 //! The word for a level.
 
-ghost use Rattle.std.specs.Prelude.{◌≡◌, ◌≤◌, OnOk, length, position};
+ghost use Rattle.std.specs.Prelude.{◌≡◌, ◌<◌, ◌≤◌, IfOk, IfSome, OnOk, length, position};
 ghost use Rattle.std.specs.Str.{bytes_eq};
 ghost use Rattle.sp_text.specs.declared.limits.TheConstants.{MOST_FILE_BYTES, MOST_LEVELS};
 ghost use Rattle.sp_frame.specs.declared.refusal.Refusal.TheVariants as refusal;
@@ -25,8 +25,10 @@ pub fn judge_level(
     greatest: u16,
     word: &str,
 ) -> Result<u16, Stop>
-    requires { length names.now ≤ MOST_LEVELS }
-    ensures { Does (LevelJudged names.now least greatest word.now) result }
+    requires few { length names.now ≤ MOST_LEVELS }
+    requires ends { (least < length names.now) × (greatest < length names.now) }
+    ensures does { Does (LevelJudged names.now least greatest word.now) result }
+    ensures level { IfOk result (λ level. level < length names.now) }
 {
     bound_word(word.as_bytes())?;
     judged(
@@ -57,8 +59,10 @@ fn read_level(
     word: &[u8],
 ) -> Result<u16, TextFault>
     requires few { length names.now ≤ MOST_LEVELS }
+    requires ends { (least < length names.now) × (greatest < length names.now) }
     requires within { length word.now ≤ MOST_FILE_BYTES }
-    ensures { Tells (LevelRead names.now least greatest word.now) result }
+    ensures tells { Tells (LevelRead names.now least greatest word.now) result }
+    ensures level { IfOk result (λ level. level < length names.now) }
 {
     let tokens = lexed(alloc, word)?;
     level_of_tokens(names, least, greatest, tokens.items(), word.len() as u32)
@@ -72,8 +76,10 @@ fn level_of_tokens(
     tokens: &[Token],
     end: u32,
 ) -> Result<u16, TextFault>
-    requires { length names.now ≤ MOST_LEVELS }
-    ensures { Tells (λ out. out ≡ level_of names.now least greatest end tokens.now) result }
+    requires few { length names.now ≤ MOST_LEVELS }
+    requires ends { (least < length names.now) × (greatest < length names.now) }
+    ensures tells { Tells (λ out. out ≡ level_of names.now least greatest end tokens.now) result }
+    ensures level { IfOk result (λ level. level < length names.now) }
 {
     match tokens {
         [] => Err(broken_at(Span { start: end, end }, Rule::Unexpected)),
@@ -84,8 +90,10 @@ fn level_of_tokens(
 
 // The level that the token is.
 fn level_at(names: &[Name], least: u16, greatest: u16, token: &Token) -> Result<u16, TextFault>
-    requires { length names.now ≤ MOST_LEVELS }
-    ensures { Tells (λ out. out ≡ levels.level_at names.now least greatest token.now.span token.now.kind) result }
+    requires few { length names.now ≤ MOST_LEVELS }
+    requires ends { (least < length names.now) × (greatest < length names.now) }
+    ensures tells { Tells (λ out. out ≡ levels.level_at names.now least greatest token.now.span token.now.kind) result }
+    ensures level { IfOk result (λ level. level < length names.now) }
 {
     match &token.kind {
         TokenKind::Name(name) => match level_named(names, name) {
@@ -101,7 +109,8 @@ fn level_at(names: &[Name], least: u16, greatest: u16, token: &Token) -> Result<
 // The number of the level of this name.
 fn level_named(names: &[Name], name: &Name) -> Option<u16>
     requires { length names.now ≤ MOST_LEVELS }
-    ensures { result ≡ position (λ other. bytes_eq other name.now) names.now }
+    ensures place { result ≡ position (λ other. bytes_eq other name.now) names.now }
+    ensures level { IfSome result (λ level. level < length names.now) }
 {
     match place_of(names, name) {
         Some(place) => Some(place as u16),
@@ -110,7 +119,8 @@ fn level_named(names: &[Name], name: &Name) -> Option<u16>
 }
 
 fn place_of(names: &[Name], name: &Name) -> Option<usize>
-    ensures { result ≡ position (λ other. bytes_eq other name.now) names.now }
+    ensures place { result ≡ position (λ other. bytes_eq other name.now) names.now }
+    ensures level { IfSome result (λ place. place < length names.now) }
 {
     names.iter().position(|other| *other == *name)
 }

@@ -22,16 +22,17 @@ use Rattle.sp_driver.specs.Run.{CauseOf, CutShort, EndsAnswered, HasReport, IsWr
 use Rattle.sp_driver.specs.Words.{Command, command_of}
 use Rattle.sp_frame.specs.Steps.{DoesLoad}
 use Rattle.sp_frame.proofs.Connective.{reports_ending}
-use Rattle.sp_driver.proofs.Commands.{command_lawful, once}
+use Rattle.sp_driver.specs.Laws.{CommandLaw}
+use Rattle.sp_driver.proofs.Commands.{once}
 
-module _ (words : List (List ℕ)) (files : Files) where
+module _ (law : CommandLaw) (words : List (List ℕ)) (files : Files) where
   due_as : (command : Option Command) (r : Refusal) → EndsAs command files (refused r) → IsDue files r
   due_as None r p = absurd cc
   due_as (Some command) r p = by p.0 p.1 p.2
     where
       by : (out : Result (Answer Certified) Refusal) → CommandDone command files out → refused r ≡ ending_of out → IsDue files r
       by (Ok a) h e = absurd cc
-      by (Err s) h e = let same : r ≡ s = cc in subst (IsDue files) (sym same) ((command_lawful files command).due s h)
+      by (Err s) h e = let same : r ≡ s = cc in subst (IsDue files) (sym same) ((law files command).due s h)
 
   words_none : (command : Option Command) → EndsAs command files no_command → command ≡ None
   words_none None h = refl
@@ -91,7 +92,7 @@ module _ (words : List (List ℕ)) (files : Files) where
         by : (b : Bool) → is_reported result ≡ b → ((bytes : List ℕ) × Reports spells e bytes result × Appends before now bytes) ⊎ IsFailure result
         by true t =
             let r = reported t in
-            inl (r.1, subst (λ f. Reports spells f r.1 result) (once files words r.0 e r.2 h) r.3, r.4)
+            inl (r.1, subst (λ f. Reports spells f r.1 result) (once law files words r.0 e r.2 h) r.3, r.4)
         by false t = inr t
 
     at_cause : IsCaused words result files
@@ -102,14 +103,14 @@ module _ (words : List (List ℕ)) (files : Files) where
           elim (at_ending e.0 e.1) [ inl p ↦ inl (p.1.1 ∙ e.2) | inr f ↦ inr f ];
     }
 
-module _ (words : List (List ℕ)) (before now : Option (List ℕ)) (result : Status) where
+module _ (law : CommandLaw) (words : List (List ℕ)) (before now : Option (List ℕ)) (result : Status) where
   pub determined : (told : Option Files) → (IsTrue (is_reported result) → IfSome told (Reported words result before now)) → IfSome told (IsDetermined words result before now)
   determined None h = tt
-  determined (Some files) h = at_ending words files before now result h
+  determined (Some files) h = at_ending law words files before now result h
 
   pub caused : (told : Option Files) → (IsTrue (is_reported result) → IfSome told (Reported words result before now)) → IfSome told (IsCaused words result)
   caused None h = tt
-  caused (Some files) h = at_cause words files before now result h
+  caused (Some files) h = at_cause law words files before now result h
 
   -- what was written is the report of an ending of the words
   pub reported : (told : Option Files) (ended : Result Report Failure) → IfOk ended (λ r. IfSome told (HasReport words r.bytes.items r.status))

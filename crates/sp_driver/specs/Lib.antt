@@ -1,8 +1,6 @@
 pub mod Certified
+pub mod Laws
 pub mod Meant
 pub mod Report
 pub mod Run
-pub mod RunCommand
-pub mod Sorts
-pub mod System
 pub mod Words

@@ -1,36 +1,22 @@
--- Which words are a command, for the top call and for what a report is.
-use Rattle.std.specs.Prelude.{ℕ, ◌&&◌, ◌==◌, Bool, false, not, List, [], ◌∷◌, Option, Some, None, String, codes, map, string_bytes, if◌then◌else◌}
-use Rattle.std.specs.Str.{bytes_eq}
-use Rattle.std.specs.List.{list_all}
+-- Which words are a command that is built, for the top call and for what a report is.
+use Rattle.std.specs.Prelude.{ℕ, List, Option, Some, None, option_and_then}
+use Rattle.sp_words.specs.Words as forms
 
--- `run` with the names of an interface, an instance and a script
+-- `run` with the names of an interface, an instance and a script; `compare` with the word of a level too
 pub data Command : Type 0 where
   run : List ℕ → List ℕ → List ℕ → Command
+  compare : List ℕ → List ℕ → List ℕ → List ℕ → Command
 
--- the words as lists of bytes
-module _ {A : Type 0} where
-  abbrev pub texts_of : List (String A) → List (List ℕ)
-  texts_of words = map string_bytes words
+-- the command of a form of words; those of the other forms aren't built yet, so that these words are no command
+abbrev pub built : forms.Command → Option Command
+built (forms.check interface) = None
+built (forms.formulas interface) = None
+built (forms.prove interface) = None
+built (forms.verify interface certificates) = None
+built (forms.migrate interface certificates) = None
+built (forms.run interface instance script) = Some (run interface instance script)
+built (forms.compare interface instance script level) = Some (compare interface instance script level)
 
--- the byte isn't a line feed
-abbrev pub is_no_line_feed : ℕ → Bool
-is_no_line_feed b = not (b == 10)
-
--- the word isn't empty, doesn't begin with `-` and holds no line feed
-abbrev pub is_plain : List ℕ → Bool
-is_plain [] = false
-is_plain (first ∷ rest) = not (first == 45) && list_all is_no_line_feed (first ∷ rest)
-
--- `run` asks for three words
-abbrev pub run_of : List (List ℕ) → Option Command
-run_of (interface ∷ instance ∷ script ∷ []) = Some (run interface instance script)
-run_of _ = None
-
--- the command of that name, with its words
-abbrev pub command_named : List ℕ → List (List ℕ) → Option Command
-command_named verb words = if bytes_eq verb (codes "run") then run_of words else None
-
--- the command that the words are, if any: its name, and then plain words
+-- the command that the words are, if any
 abbrev pub command_of : List (List ℕ) → Option Command
-command_of [] = None
-command_of (verb ∷ words) = if list_all is_plain words then command_named verb words else None
+command_of words = option_and_then built (forms.command_of words)

@@ -1,12 +1,27 @@
-//! What holds of endings, whatever the words and the files.
+//! What holds of commands and of endings, whatever the words and the files.
 
 ghost use Rattle.std.specs.Prelude.{◌≡◌, ℕ, List};
 ghost use Rattle.sp_outside.specs.Files.{Files};
 ghost use Rattle.sp_frame.specs.Endings.{Ending};
 ghost use Rattle.sp_driver.specs.Certified.{Certified};
+ghost use Rattle.sp_driver.specs.Laws.{CommandLaw};
 ghost use Rattle.sp_driver.specs.Report.{Ends};
+
+use sp_compare_command::compare_law;
+use sp_run_command::run_law;
+
+/// The work of each command comes to one outcome at most, and its refusals hold of the files. It does nothing: its clause
+/// is the law.
+pub fn command_law()
+    ensures { CommandLaw }
+{
+    run_law();
+    compare_law();
+}
 
 /// Words and files have at most one ending. It does nothing: its clause is the law.
 pub fn one_ending()
     ensures { (words : List (List ℕ)) (files : Files) (a b : Ending Certified) → Ends words files a → Ends words files b → a ≡ b }
-{}
+{
+    command_law();
+}

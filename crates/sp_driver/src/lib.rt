@@ -3,13 +3,9 @@
 
 mod laws;
 mod perform;
-mod run_command;
-mod sorts;
-mod system;
 mod top_call;
 mod words;
 
-pub use laws::one_ending;
+pub use laws::{command_law, one_ending};
 pub use sp_frame::Status;
 pub use top_call::run;
-pub use words::{Command, read_words};

@@ -6,10 +6,11 @@ ghost use Rattle.sp_driver.specs.Certified.{spells};
 ghost use Rattle.sp_driver.specs.Meant.{command_meant};
 ghost use Rattle.sp_driver.specs.Report.{CommandDone};
 
-use crate::run_command::run_command;
 use crate::words::Command;
+use sp_compare_command::compare_command;
 use sp_frame::{LoadStop, Printed};
 use sp_outside::Library;
+use sp_run_command::run_command;
 use std::alloc::Global;
 
 /// The lines of a command.
@@ -29,5 +30,11 @@ pub fn perform<L: Library>(
             instance,
             script,
         } => run_command(alloc, lib, interface, instance, script),
+        Command::Compare {
+            interface,
+            instance,
+            script,
+            level,
+        } => compare_command(alloc, lib, interface, instance, script, level),
     }
 }

@@ -6,12 +6,15 @@ ghost use Rattle.sp_outside.specs.Written.{Appends, AppendsPrefix};
 ghost use Rattle.sp_frame.specs.Status.{is_reported};
 ghost use Rattle.sp_driver.specs.Report.{Ends, IsLoading};
 ghost use Rattle.sp_driver.specs.Run.{CutShort, HasReport, IsCaused, IsDetermined, IsWritten, Reported};
-ghost use Rattle.sp_driver.specs.Words.{command_of, texts_of};
+ghost use Rattle.sp_words.specs.Words.{texts_of};
+ghost use Rattle.sp_driver.specs.Words.{command_of};
 
+use crate::laws::command_law;
 use crate::perform::perform;
 use crate::words::read_words;
 use sp_frame::{Failure, Report, Status, report_of, words_text};
 use sp_outside::{Library, Sink};
+use sp_words::WordsFault;
 use std::alloc::Global;
 
 /// Does the work that the words name, and writes its report once that is complete.
@@ -41,6 +44,7 @@ pub fn run<L: Library, S: Sink>(alloc: Global, words: &[String], lib: &mut L, ou
     ensures same { L.told lib.new ≡ L.told lib.old }
     ensures later { (L.faults lib.old ≤ L.faults lib.new) × (S.faults out.old ≤ S.faults out.new) }
 {
+    command_law();
     let ended = report(alloc, words, lib);
     deliver(ended, out)
 }
@@ -56,12 +60,13 @@ fn report<L: Library>(alloc: Global, words: &[String], lib: &mut L) -> Result<Re
     ensures same { L.told lib.new ≡ L.told lib.old }
     ensures later { L.faults lib.old ≤ L.faults lib.new }
 {
-    match read_words(words) {
-        Some(command) => report_of(alloc, perform(alloc, command, lib)),
-        None => Ok(Report {
+    match read_words(alloc, words) {
+        Ok(command) => report_of(alloc, perform(alloc, command, lib)),
+        Err(WordsFault::Words) => Ok(Report {
             bytes: words_text(alloc)?,
             status: Status::Words,
         }),
+        Err(WordsFault::Memory) => Err(Failure::Memory),
     }
 }
 

@@ -1,7 +1,14 @@
-ghost use Rattle.std.specs.Prelude.{◌≡◌, None, Some, IfNone, IfSome};
-ghost use Rattle.std.specs.List.{list_all};
-ghost use Rattle.sp_driver.specs.Words.{command_of, is_no_line_feed, is_plain, run_of, texts_of};
+//! The commands that are built.
+
+ghost use Rattle.std.specs.Prelude.{◌≡◌, None, Some, IfOk, IsErrOf, option_map};
+ghost use Rattle.sp_words.specs.Meant as forms;
+ghost use Rattle.sp_words.specs.Words.{texts_of};
 ghost use Rattle.sp_driver.specs.Meant.{command_meant};
+ghost use Rattle.sp_driver.specs.Words as meaning;
+ghost use Rattle.sp_driver.specs.Words.{command_of};
+
+use sp_words::{Command as Form, WordsFault};
+use std::alloc::Global;
 
 /// A command with its words.
 #[derive(Clone, Copy, Debug)]
@@ -12,62 +19,55 @@ pub enum Command<'a> {
         instance: &'a str,
         script: &'a str,
     },
+    /// A run beside the run of what a level sees.
+    Compare {
+        interface: &'a str,
+        instance: &'a str,
+        script: &'a str,
+        level: &'a str,
+    },
 }
 
-/// The command that the words are, if any.
-pub fn read_words(words: &[String]) -> Option<Command<'_>>
-    ensures command { IfSome result (λ command. command_of (texts_of words.entry.now) ≡ Some (command_meant command)) }
-    ensures none { IfNone result (command_of (texts_of words.entry.now) ≡ None) }
+/// The command that the words are.
+///
+/// # Errors
+/// `Words` where they are none that is built, and `Memory`.
+pub fn read_words<'a>(alloc: Global, words: &'a [String]) -> Result<Command<'a>, WordsFault>
+    ensures command { IfOk result (λ command. command_of (texts_of words.entry.now) ≡ Some (command_meant command)) }
+    ensures refused { IsErrOf result WordsFault.Words → command_of (texts_of words.entry.now) ≡ None }
 {
-    let [verb, rest @ ..] = words else {
-        return None;
-    };
-    if !are_plain(rest) {
-        return None;
+    let form = sp_words::read_words(alloc, words)?;
+    match built(form) {
+        Some(command) => Ok(command),
+        None => Err(WordsFault::Words),
     }
-    if verb.as_str() == "run" {
-        return read_run(rest);
-    }
-    None
 }
 
-// The words of `run`.
-fn read_run(words: &[String]) -> Option<Command<'_>>
-    ensures command { IfSome result (λ command. run_of (texts_of words.entry.now) ≡ Some (command_meant command)) }
-    ensures none { IfNone result (run_of (texts_of words.entry.now) ≡ None) }
+// The command of a form of words.
+fn built<'a>(form: Form<'a>) -> Option<Command<'a>>
+    ensures { option_map command_meant result ≡ meaning.built (forms.command_meant form) }
 {
-    match words {
-        [interface, instance, script] => Some(Command::Run {
-            interface: interface.as_str(),
-            instance: instance.as_str(),
-            script: script.as_str(),
+    match form {
+        Form::Run {
+            interface,
+            instance,
+            script,
+        } => Some(Command::Run {
+            interface,
+            instance,
+            script,
+        }),
+        Form::Compare {
+            interface,
+            instance,
+            script,
+            level,
+        } => Some(Command::Compare {
+            interface,
+            instance,
+            script,
+            level,
         }),
         _ => None,
     }
-}
-
-fn are_plain(words: &[String]) -> bool
-    ensures { result ≡ list_all is_plain (texts_of words.now) }
-{
-    for word in words {
-        if !is_plain_word(word.as_str()) {
-            return false;
-        }
-    }
-    true
-}
-
-fn is_plain_word(word: &str) -> bool
-    ensures { result ≡ is_plain word.now }
-{
-    match word.as_bytes() {
-        [] => false,
-        [first, ..] => *first != b'-' && is_one_line(word.as_bytes()),
-    }
-}
-
-fn is_one_line(bytes: &[u8]) -> bool
-    ensures { result ≡ list_all is_no_line_feed bytes.now }
-{
-    bytes.iter().all(|b| *b != b'\n')
 }

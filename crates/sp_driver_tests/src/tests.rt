@@ -1,5 +1,6 @@
-use sp_driver::{Status, run};
-use sp_outside::{MemoryLibrary, MemorySink};
+use crate::given::outcome_of;
+use sp_driver::Status;
+use sp_outside::MemorySink;
 use sp_text::{Memory, push_text};
 use std::alloc::Global;
 use std::test::Fail;
@@ -52,28 +53,6 @@ fn module_outcome(alloc: Global, text: &[u8]) -> Result<(Status, MemorySink), Me
     outcome_of(alloc, &SWAP, texts, Vec::new(alloc), 100)
 }
 
-// The status of a run over these files, and what it wrote.
-fn outcome_of(
-    alloc: Global,
-    words: &[&str],
-    texts: [(&str, &[u8]); 4],
-    failing: Vec<u64>,
-    room: usize,
-) -> Result<(Status, MemorySink), Memory> {
-    let mut files = Vec::new(alloc);
-    for (name, text) in texts {
-        files.push((String::from_str(alloc, name)?, text.to_vec(alloc)?))?;
-    }
-    let mut given = Vec::new(alloc);
-    for word in words {
-        given.push(String::from_str(alloc, word)?)?;
-    }
-    let mut library = MemoryLibrary::new(files, failing);
-    let mut out = MemorySink::with_capacity(alloc, room)?;
-    let status = run(alloc, &given, &mut library, &mut out);
-    Ok((status, out))
-}
-
 // Appends the piece so many times.
 fn repeat(alloc: Global, text: &mut Vec<u8>, piece: &[u8], times: u32) -> Result<(), Memory> {
     for _ in 0..times {
@@ -112,8 +91,8 @@ fn a_refusal_is_one_line(rt: HostRuntime) -> Result<(), Fail> {
             4,
             b"MISSING none.iface\n",
         ),
-        (&SWAP, b"swap()", 2, b"MALFORMED s.script 0 6 Unbuilt\n"),
-        (&SWAP, b"c();", 2, b"MALFORMED s.script 0 4 Unbuilt\n"),
+        (&SWAP, b"swap()", 2, b"MALFORMED s.script 6 6 Unexpected\n"),
+        (&SWAP, b"c();", 2, b"MALFORMED s.script 0 1 UnknownName\n"),
     ];
     for (words, script, code, printed) in rows {
         let (status, out) = outcome(alloc, words, script, Vec::new(alloc), 100)?;
@@ -170,12 +149,8 @@ fn with_parentheses(alloc: Global, depth: u32) -> Result<Vec<u8>, Memory> {
 #[test]
 fn an_expression_is_at_most_64_high(rt: HostRuntime) -> Result<(), Fail> {
     let alloc = rt.alloc();
-    let (read, unbuilt) = module_outcome(alloc, &with_parentheses(alloc, 63)?)?;
+    let (read, _) = module_outcome(alloc, &with_parentheses(alloc, 63)?)?;
     assert_eq!(rt; read.code(), 2);
-    assert_eq!(rt;
-        unbuilt.bytes(),
-        b"MALFORMED m.special 0 162 Unbuilt\n".as_slice()
-    );
     let (refused, limit) = module_outcome(alloc, &with_parentheses(alloc, 64)?)?;
     assert_eq!(rt; refused.code(), 7);
     assert_eq!(rt;
@@ -197,12 +172,8 @@ fn with_nested_effects(alloc: Global, depth: u32) -> Result<Vec<u8>, Memory> {
 #[test]
 fn effects_are_nested_at_most_16_deep(rt: HostRuntime) -> Result<(), Fail> {
     let alloc = rt.alloc();
-    let (read, unbuilt) = module_outcome(alloc, &with_nested_effects(alloc, 16)?)?;
+    let (read, _) = module_outcome(alloc, &with_nested_effects(alloc, 16)?)?;
     assert_eq!(rt; read.code(), 2);
-    assert_eq!(rt;
-        unbuilt.bytes(),
-        b"MALFORMED m.special 0 463 Unbuilt\n".as_slice()
-    );
     let (refused, limit) = module_outcome(alloc, &with_nested_effects(alloc, 17)?)?;
     assert_eq!(rt; refused.code(), 7);
     assert_eq!(rt;

@@ -9,11 +9,12 @@ use Rattle.sp_text.specs.Violations.{JudgesFiles}
 use Rattle.sp_tree.specs.declared.interface.InterfaceTree.{InterfaceTree}
 use Rattle.sp_tree.specs.declared.module.Module.{Module}
 use Rattle.sp_scopes.specs.declared.scopes.Scopes.{Scopes}
-use Rattle.sp_scopes.specs.Scopes.{scopes_of}
 use Rattle.sp_core.specs.Parts.{Parts}
 use Rattle.sp_core.specs.WellFormed.{IsWellFormed}
 use Rattle.sp_specification.specs.Broken.{AreBroken}
-use Rattle.sp_specification.specs.Meaning.{IsSpecOf}
+use Rattle.sp_ordered.specs.Laws.{BrokenLaw}
+use Rattle.sp_one_spec.specs.Laws.{OneSpecLaw}
+use Rattle.sp_types.specs.Elaborated.{IsElaborated}
 use Rattle.sp_frame.specs.declared.refusal.Refusal.{Refusal}
 use Rattle.sp_frame.specs.declared.refusal.Stop.{Stop}
 use Rattle.sp_frame.specs.declared.refusal.Stop.TheVariants as stop
@@ -21,13 +22,15 @@ use Rattle.sp_frame.specs.Steps.{Does}
 use Rattle.sp_system.specs.Interfaces.{Elaborates, InterfaceJudged, IsFaulty, IsFiled, TellsFiles, file_of}
 use Rattle.sp_system.specs.declared.interface.Elaborated.{Elaborated}
 
+same_fault : (f : SpecFault) → f.fault ≢ fault.Memory → (r : Result (Parts × Scopes) SpecFault) → r ≡ Err f → (g : SpecFault) → r ≡ Err g → g.fault ≢ fault.Memory
+same_fault f is r e g d = let p : f ≡ g = cc in subst (λ (h : SpecFault). h.fault ≢ fault.Memory) p is
+
 module _ (i : InterfaceTree) (ms : List Module) where
   -- where all that is broken is one list, and the specification is determined
-  module _ (one_list : (j : InterfaceTree) (ns : List Module) (vs ws : List FileViolation) → AreBroken j ns vs → AreBroken j ns ws → vs ≡ ws)
-      (one_spec : (j : InterfaceTree) (ns : List Module) (p q : Parts) → IsSpecOf j ns p → IsSpecOf j ns q → IsWellFormed p → IsWellFormed q → p ≡ q) where
+  module _ (one_list : BrokenLaw) (one_spec : OneSpecLaw) where
     pub elaborates : (r : Result (Parts × Scopes) SpecFault)
         → (((f : SpecFault) → r ≡ Err f → f.fault ≢ fault.Memory) → (vs : List FileViolation) × AreBroken i ms vs)
-        → ((vs : List FileViolation) → AreBroken i ms vs → JudgesFiles vs (λ (x : Parts × Scopes). IsSpecOf i ms x.0 × (x.1 ≡ scopes_of i ms)) r)
+        → ((vs : List FileViolation) → AreBroken i ms vs → JudgesFiles vs (IsElaborated i ms) r)
         → IfOk r (λ x. IsWellFormed x.0) → TellsFiles (Elaborates i ms) r
     elaborates (Ok x) found judges formed =
         let b = found (λ f e. absurd cc) in
@@ -38,14 +41,14 @@ module _ (i : InterfaceTree) (ms : List Module) where
           judges = (
             j.0,
             record {
-              spec = record { meant = j.1.0; well_formed = formed; only = λ q h w. one_spec i ms q x.0 h j.1.0 w formed };
-              scopes = j.1.1;
+              spec = record { meant = j.1.spec; well_formed = formed; only = λ q h w. one_spec i ms q x.0 h j.1.spec w.lattice formed.lattice };
+              scopes = j.1.scopes;
             },
           );
           definite = λ f e. absurd cc;
         }
     elaborates (Err f) found judges formed = λ is.
-        let same : (g : SpecFault) → Err {T = Parts × Scopes} f ≡ Err g → g.fault ≢ fault.Memory = λ g e. let p : f ≡ g = cc in subst (λ (h : SpecFault). h.fault ≢ fault.Memory) p is in
+        let same = same_fault f is (Err f) refl in
         let b = found same in
         record {
           all = b.0;

@@ -14,6 +14,7 @@ use Rattle.sp_tree.specs.declared.instance.InstanceTree.{InstanceTree}
 use Rattle.sp_tree.specs.declared.interface.InterfaceTree.{InterfaceTree}
 use Rattle.sp_tree.specs.declared.interface.LatticeTree.{LatticeTree}
 use Rattle.sp_tree.specs.declared.module.Module.{Module}
+use Rattle.sp_tree.specs.declared.names.Ident.{Ident}
 use Rattle.sp_scopes.specs.declared.scopes.Scopes.{Scopes}
 use Rattle.sp_core.specs.Instances.{Filling, InstanceParts, IsAdmissible, IsAsserted, filling_of, world_of}
 use Rattle.sp_core.specs.Parts.{Parts}
@@ -24,12 +25,13 @@ use Rattle.sp_frame.specs.Laws.{IsDue, IsLawful, IsOnce}
 use Rattle.sp_frame.specs.Steps.{Step}
 use Rattle.sp_frame.proofs.Lawful.{demand_lawful, each_lawful, file_lawful, gives_lawful, judged_lawful, then_lawful}
 use Rattle.sp_frame.proofs.Told.{told_lawful}
+use Rattle.sp_sorts.specs.Sorts.{instance_file, instances, interfaces, module_file, modules}
 use Rattle.sp_sorts.specs.Texts.{Answered, Grammar, Read, TreeRead}
 use Rattle.sp_sorts.proofs.Definite.{answered_by}
 use Rattle.sp_sorts.proofs.Exact.{instance_once, interface_once, module_once}
 use Rattle.sp_system.specs.Instances.{Admitted, InstanceJudged}
-use Rattle.sp_system.specs.Interfaces.{Elaborates, InterfaceJudged, IsElaborated, IsFaulty, IsFiled, broken_at, broken_in, file_of, level_pair}
-use Rattle.sp_system.specs.System.{SampleJudged, SystemJudged, SystemRead}
+use Rattle.sp_system.specs.Interfaces.{Elaborates, InterfaceJudged, IsOnlyElaborated, IsFaulty, IsFiled, broken_at, broken_in, file_of, level_pair}
+use Rattle.sp_system.specs.System.{ModulesRead, SampleJudged, SystemJudged, SystemRead}
 use Rattle.sp_system.specs.declared.interface.Elaborated.{Elaborated}
 use Rattle.sp_system.specs.declared.system.System.{System}
 
@@ -68,7 +70,7 @@ module _ {T : Type 0} (vs : List Violation) (P : T → Type 0) (one : (x y : T) 
 -- ---- interfaces
 
 module _ (i : InterfaceTree) (ms : List Module) where
-  elaborated_once : (x y : Parts × Scopes) → IsElaborated i ms x → IsElaborated i ms y → x ≡ y
+  elaborated_once : (x y : Parts × Scopes) → IsOnlyElaborated i ms x → IsOnlyElaborated i ms y → x ≡ y
   elaborated_once x y p q =
       let spec : x.0 ≡ y.0 = q.spec.only x.0 p.spec.meant p.spec.well_formed in
       let scopes : x.1 ≡ y.1 = p.scopes ∙ sym q.scopes in
@@ -76,7 +78,7 @@ module _ (i : InterfaceTree) (ms : List Module) where
 
   module _ (vs : List FileViolation) where
     filed_once : (a b : Result (Parts × Scopes) SpecFault) → ((f : SpecFault) → a ≡ Err f → f.fault ≢ fault.Memory) → ((f : SpecFault) → b ≡ Err f → f.fault ≢ fault.Memory)
-        → JudgesFiles vs (IsElaborated i ms) a → JudgesFiles vs (IsElaborated i ms) b → a ≡ b
+        → JudgesFiles vs (IsOnlyElaborated i ms) a → JudgesFiles vs (IsOnlyElaborated i ms) b → a ≡ b
     filed_once (Ok x) (Ok y) m k p q = ap Ok (elaborated_once x y p.1 q.1)
     filed_once (Ok x) (Err f) m k p q =
         absurd (k f refl (ap (λ (g : SpecFault). g.fault) (sym (named_in_files vs f.file f.fault (k f refl) q) ∙ ap (λ ws. fault_in_files (first_in_files ws)) p.0)))
@@ -87,7 +89,7 @@ module _ (i : InterfaceTree) (ms : List Module) where
   elaborates_once : IsOnce (Elaborates i ms)
   elaborates_once a b p q =
       filed_once p.all a b p.definite q.definite p.judges
-      (subst (λ ws. JudgesFiles ws (IsElaborated i ms) b) (p.broken.only q.all q.broken.broken) q.judges)
+      (subst (λ ws. JudgesFiles ws (IsOnlyElaborated i ms) b) (p.broken.only q.all q.broken.broken) q.judges)
 
 module _ (files : Files) where
   broken_due : (l : LatticeTree) (name : List ℕ) (m : Malformed) (o : Option (ℕ × ℕ)) → IsDue files (broken_at l name m o)
@@ -155,11 +157,15 @@ module _ (files : Files) where
   pub tree_lawful : {T : Type 0} (grammar : Grammar T) (name : List ℕ) → ((text : List ℕ) → IsOnce (Read grammar text)) → IsLawful files (TreeRead grammar name files)
   tree_lawful grammar name once = then_lawful files _ _ (file_lawful files _ name once) (λ x. gives_lawful files _)
 
+  modules_lawful : (names : List Ident) → IsLawful files (ModulesRead names files)
+  unfolding ModulesRead
+  modules_lawful names = each_lawful files _ names (λ m. tree_lawful modules (module_file m.name) module_once)
+
   pub read_lawful : (name : List ℕ) → IsLawful files (SystemRead name files)
   read_lawful name =
-      then_lawful files _ _ (tree_lawful _ _ interface_once) (λ i.
-      then_lawful files _ _ (each_lawful files _ _ (λ m. tree_lawful _ _ module_once)) (λ ms.
-      then_lawful files _ _ (tree_lawful _ _ instance_once) (λ s. gives_lawful files _)))
+      then_lawful files _ _ (tree_lawful interfaces name interface_once) (λ i.
+      then_lawful files _ _ (modules_lawful i.modules) (λ ms.
+      then_lawful files _ _ (tree_lawful instances (instance_file i.sample.name) instance_once) (λ s. gives_lawful files (record { interface = i; modules = ms; sample = s }))))
 
   sample_lawful : (p : Parts) (x : System) → IsLawful files (SampleJudged p x)
   sample_lawful p x = then_lawful files _ _ (demand_lawful files _ _ tt) (λ _. instance_lawful p _ x.sample)

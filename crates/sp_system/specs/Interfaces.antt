@@ -40,7 +40,7 @@ module _ (i : InterfaceTree) (ms : List Module) where
     pub only : (q : Parts) → IsSpecOf i ms q → IsWellFormed q → q ≡ p
 
   -- the specification with all that is declared
-  pub record IsElaborated (r : Parts × Scopes) : Type 0 where
+  pub record IsOnlyElaborated (r : Parts × Scopes) : Type 0 where
     pub spec : IsOnlySpec r.0
     pub scopes : r.1 ≡ scopes_of i ms
 
@@ -49,7 +49,7 @@ module _ (i : InterfaceTree) (ms : List Module) where
   pub record Elaborates (out : Result (Parts × Scopes) SpecFault) : Type 0 where
     pub all : List FileViolation
     pub broken : IsAllBroken all
-    pub judges : JudgesFiles all IsElaborated out
+    pub judges : JudgesFiles all IsOnlyElaborated out
     pub definite : (f : SpecFault) → out ≡ Err f → f.fault ≢ fault.Memory
 
 -- the call answers so, unless memory was refused

@@ -4,6 +4,7 @@ use Rattle.std.specs.Prelude.{◌≡◌, ℕ, List}
 use Rattle.sp_text.specs.declared.fault.Rule.TheVariants as rule
 use Rattle.sp_outside.specs.Files.{Files}
 use Rattle.sp_tree.specs.declared.module.Module.{Module}
+use Rattle.sp_tree.specs.declared.names.Ident.{Ident}
 use Rattle.sp_core.specs.Parts.{Parts}
 use Rattle.sp_core.specs.Instances.{InstanceParts}
 use Rattle.sp_frame.specs.declared.refusal.Refusal.TheVariants as refusal
@@ -19,11 +20,15 @@ use Rattle.sp_system.specs.declared.system.System.{System}
 abbrev pub ModuleRead : List ℕ → Files → Step Module
 ModuleRead name files = TreeRead modules (module_file name) files
 
+-- and the modules of these names in their order
+unfoldable pub ModulesRead : List Ident → Files → Step (List Module)
+ModulesRead names files = Each (λ m. ModuleRead m.name files) names
+
 -- the texts of the system are read
 abbrev pub SystemRead : List ℕ → Files → Step System
 SystemRead name files =
     Then (TreeRead interfaces name files) (λ i.
-    Then (Each (λ m. ModuleRead m.name files) i.modules) (λ ms.
+    Then (ModulesRead i.modules files) (λ ms.
     Then (TreeRead instances (instance_file i.sample.name) files) (λ s.
     Gives (record { interface = i; modules = ms; sample = s }))))
 

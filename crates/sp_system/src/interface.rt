@@ -1,16 +1,18 @@
 //! An interface judged with its modules.
 
-ghost use Rattle.std.specs.Prelude.{◌≡◌, IfOk};
+ghost use Rattle.std.specs.Prelude.{◌≡◌, IfOk, option_map};
 ghost use Rattle.sp_frame.specs.Steps.{Does};
 ghost use Rattle.sp_system.specs.Interfaces as interfaces;
 ghost use Rattle.sp_system.specs.Interfaces.{Elaborates, InterfaceJudged, IsFaulty, IsFiled, TellsFiles};
 
 use sp_core::Spec;
 use sp_frame::{Refusal, Stop};
+use sp_one_spec::one_spec_law;
+use sp_ordered::broken_law;
 use sp_scopes::Scopes;
 use sp_text::{Malformed, Memory, Name, Rule, SpecFault, TextFault, push_text};
 use sp_tree::{Ident, InterfaceTree, LatticeTree, Module};
-use sp_types::{broken_law, elaborate, specification_law};
+use sp_types::elaborate;
 use std::alloc::Global;
 
 /// What an interface stands for: its specification, and all that it declares.
@@ -37,13 +39,13 @@ pub fn judge_interface(
         alloc,
         file,
         interface,
-        elaborated(alloc, interface, modules),
+        elaboration(alloc, interface, modules),
     )
 }
 
 // The answer of `elaborate`.
 #[tactic(auto, using(crate::proofs::Elaborating::elaborates))]
-fn elaborated(
+fn elaboration(
     alloc: Global,
     interface: &InterfaceTree,
     modules: &[Module],
@@ -51,7 +53,7 @@ fn elaborated(
     ensures { TellsFiles (Elaborates interface.now modules.now) result }
 {
     broken_law();
-    specification_law();
+    one_spec_law();
     let answer = elaborate(alloc, interface, modules);
     if let Ok((spec, _)) = &answer {
         let _ = spec.name();
@@ -114,12 +116,13 @@ fn file_of(
     )
 }
 
-fn module_of(alloc: Global, module: Option<&Ident>) -> Result<Name, Memory>
-    ensures { IfOk result (λ name. name ≡ interfaces.module_of module.now) }
+// The file of a module, or no name.
+fn module_of(alloc: Global, called: Option<&Ident>) -> Result<Name, Memory>
+    ensures { IfOk result (λ name. name ≡ interfaces.module_of (option_map (λ x. x.now) called.entry)) }
 {
     let mut file = Vec::new(alloc);
-    if let Some(module) = module {
-        push_text(alloc, &mut file, module.name.bytes())?;
+    if let Some(called) = called {
+        push_text(alloc, &mut file, called.name.bytes())?;
         push_text(alloc, &mut file, b".special")?;
     }
     Name::new(alloc, &file)

@@ -1,11 +1,13 @@
 //! Systems: an interface with its modules and its sample.
 
-ghost use Rattle.std.specs.Prelude.{◌≡◌, OnOk};
+ghost use Rattle.std.specs.Prelude.{◌≡◌, IfOk};
 ghost use Rattle.std.specs.List.{All};
 ghost use Rattle.std.specs.Str.{IsUtf8};
 ghost use Rattle.sp_frame.specs.Loads.{Loads};
-ghost use Rattle.sp_frame.specs.Steps.{Does, Each};
-ghost use Rattle.sp_system.specs.System.{ModuleRead, SampleJudged, SampleNamed, SystemJudged, SystemRead};
+ghost use Rattle.sp_frame.specs.Steps.{Does};
+ghost use Rattle.sp_system.specs.Instances.{InstanceJudged};
+ghost use Rattle.sp_system.specs.System as definitions;
+ghost use Rattle.sp_system.specs.System.{ModuleRead, ModulesRead, SampleJudged, SampleNamed, SystemJudged, SystemRead};
 
 use crate::instance::judge_instance;
 use crate::interface::{Elaborated, judge_interface};
@@ -13,7 +15,7 @@ use sp_core::{Instance, Spec};
 use sp_frame::{LoadStop, Stop, broken};
 use sp_outside::Library;
 use sp_sorts::{read_named_tree, read_tree};
-use sp_text::{Malformed, Rule, Sequence, push_text};
+use sp_text::{Malformed, Memory, Rule, Sequence, push_text};
 use sp_tree::{Ident, InstanceTree, InterfaceTree, Module};
 use std::alloc::Global;
 
@@ -35,7 +37,7 @@ pub fn load_system<L: Library>(alloc: Global, lib: &mut L, name: &str) -> Result
     ensures { Loads L.told L.faults lib.old lib.new (SystemRead name.now) result }
 {
     let interface: InterfaceTree = read_tree(alloc, lib, name)?;
-    let modules = load_modules(alloc, lib, &interface.modules)?;
+    let modules = modules_of(alloc, lib, &interface)?;
     let sample = read_named_tree(alloc, lib, &interface.sample.name, ".inst")?;
     Ok(System {
         interface,
@@ -44,18 +46,30 @@ pub fn load_system<L: Library>(alloc: Global, lib: &mut L, name: &str) -> Result
     })
 }
 
+// The modules that the interface names.
+fn modules_of<L: Library>(
+    alloc: Global,
+    lib: &mut L,
+    interface: &InterfaceTree,
+) -> Result<Sequence<Module>, LoadStop>
+    requires { All (λ m. IsUtf8 m.name) interface.now.modules }
+    ensures { Loads L.told L.faults lib.old lib.new (ModulesRead interface.now.modules) result }
+{
+    load_modules(alloc, lib, interface.modules.items())
+}
+
 // The modules of these names, in their order.
-#[tactic(auto, using(sp_frame::proofs::Lists::none_loaded))]
+#[tactic(auto, using(sp_frame::proofs::Lists::none_loaded), unfolding(crate::specs::System::ModulesRead))]
 fn load_modules<L: Library>(
     alloc: Global,
     lib: &mut L,
-    names: &Sequence<Ident>,
+    names: &[Ident],
 ) -> Result<Sequence<Module>, LoadStop>
     requires { All (λ m. IsUtf8 m.name) names.now }
-    ensures { Loads L.told L.faults lib.old lib.new (λ files. Each (λ m. ModuleRead m.name files) names.now) result }
+    ensures { Loads L.told L.faults lib.old lib.new (ModulesRead names.now) result }
 {
     let mut modules = Vec::new(alloc);
-    for name in names.items() {
+    for name in names {
         let module = load_module(alloc, lib, name)?;
         modules.push(module)?;
     }
@@ -96,17 +110,32 @@ fn judge_sample(alloc: Global, spec: &Spec, system: &System) -> Result<Instance,
 fn name_sample(alloc: Global, system: &System) -> Result<(), Stop>
     ensures { Does (SampleNamed system.now) result }
 {
-    let asked = &system.interface.sample.name;
     let given = &system.sample.name;
-    if given.name == *asked {
+    if given.name == system.interface.sample.name {
         return Ok(());
     }
-    let mut file = Vec::new(alloc);
-    push_text(alloc, &mut file, asked.bytes())?;
-    push_text(alloc, &mut file, b".inst")?;
+    let file = sample_file(alloc, system)?;
     let malformed = Malformed {
         span: given.span,
         rule: Rule::WrongName,
     };
     Err(broken(alloc, &file, malformed))
+}
+
+// The sample, which is admissible.
+fn sample_of(alloc: Global, spec: &Spec, system: &System) -> Result<Instance, Stop>
+    ensures { Does (InstanceJudged spec.now (definitions.sample_file system.now) system.now.sample) result }
+{
+    let file = sample_file(alloc, system)?;
+    judge_instance(alloc, spec, &file, &system.sample)
+}
+
+// The file of the sample.
+fn sample_file(alloc: Global, system: &System) -> Result<Vec<u8>, Memory>
+    ensures { IfOk result (λ file. file.items ≡ definitions.sample_file system.now) }
+{
+    let mut file = Vec::new(alloc);
+    push_text(alloc, &mut file, system.interface.sample.name.bytes())?;
+    push_text(alloc, &mut file, b".inst")?;
+    Ok(file)
 }

@@ -1,17 +1,17 @@
-use Rattle.sp_driver.specs.Words.{texts_of}
+use Rattle.sp_words.specs.Words.{texts_of}
 use Rattle.sp_driver.proofs.Causes as causes
 use Rattle.sp_driver.proofs.top_call.run.Goals as goal
 
 pub returns-clause-reported : goal.returns-clause-reported
-returns-clause-reported g c = causes.reported (texts_of c.args.words.now) _ _ _ _ c.report-ended.result c.report-ended.ensures.reports c.deliver.ensures.whole
+returns-clause-reported g c = causes.reported c.command_law.ensures (texts_of c.args.words.now) _ _ _ _ c.report-ended.result c.report-ended.ensures.reports c.deliver.ensures.whole
 
 pub returns-clause-determined : goal.returns-clause-determined
 returns-clause-determined g c =
-    causes.determined (texts_of c.args.words.now) _ _ _ _ (causes.reported (texts_of c.args.words.now) _ _ _ _ c.report-ended.result c.report-ended.ensures.reports c.deliver.ensures.whole)
+    causes.determined c.command_law.ensures (texts_of c.args.words.now) _ _ _ _ (causes.reported c.command_law.ensures (texts_of c.args.words.now) _ _ _ _ c.report-ended.result c.report-ended.ensures.reports c.deliver.ensures.whole)
 
 pub returns-clause-caused : goal.returns-clause-caused
 returns-clause-caused g c =
-    causes.caused (texts_of c.args.words.now) _ _ _ _ (causes.reported (texts_of c.args.words.now) _ _ _ _ c.report-ended.result c.report-ended.ensures.reports c.deliver.ensures.whole)
+    causes.caused c.command_law.ensures (texts_of c.args.words.now) _ _ _ _ (causes.reported c.command_law.ensures (texts_of c.args.words.now) _ _ _ _ c.report-ended.result c.report-ended.ensures.reports c.deliver.ensures.whole)
 
 pub returns-clause-cut_short : goal.returns-clause-cut_short
 returns-clause-cut_short g c = λ e. causes.cut_short (texts_of c.args.words.now) _ _ _ c.report-ended.result c.report-ended.ensures.reports (c.deliver.ensures.part e)

@@ -6,4 +6,4 @@ use Rattle.sp_system.proofs.system.load_modules.Given as goal
 
 -- the modules so far are loaded, and so all are where those that are left are
 abbrev pub invariant-loop-name : goal.invariant-loop-name
-invariant-loop-name g l = LoadsFirst g.L.Library.told g.L.Library.faults l.initial.lib l.lib (λ files (m : Ident). ModuleRead m.name files) l.names.now (drop l.name-index l.names.now) l.modules.items
+invariant-loop-name g l = LoadsFirst g.L.Library.told g.L.Library.faults l.initial.lib l.lib (λ files (m : Ident). ModuleRead m.name files) l.names (drop l.name-index l.names) l.modules.items

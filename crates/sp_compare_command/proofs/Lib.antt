@@ -1,0 +1,4 @@
+pub mod Lawful
+mod Comparisons
+mod Lists
+mod Printing

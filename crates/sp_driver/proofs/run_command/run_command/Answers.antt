@@ -1,5 +1,0 @@
-use Rattle.sp_frame.proofs.Connective.{prints_last}
-use Rattle.sp_driver.proofs.run_command.run_command.Goals as goal
-
-pub returns : goal.returns
-returns g c = prints_last _ _ _ _ _ _ _ _ _ _ c.in_ok-texts.ensures c.run_work.ensures c.as_loading.ensures

@@ -1,0 +1,114 @@
+use crate::given::{Files, outcome_of};
+use std::test::Fail;
+
+const FILES: &[u8] = b"INTERFACE files MODULES files;
+LATTICE LOW, HIGH; ORDER LOW < HIGH;
+LEVEL data(f) IS cls(f); LEVEL read(u, f) IS clr(u); LEVEL write(u, f, x) IS clr(u);
+SAMPLE small; END_INTERFACE";
+
+const GUARDED: &[u8] = b"MODULE files
+TYPES user: DESIGNATOR; file: DESIGNATOR;
+PARAMETERS LEVEL clr(user u); LEVEL cls(file f);
+FUNCTIONS
+VFUN data(file f) -> INTEGER; HIDDEN; INITIALLY 0;
+OVFUN read(user u; file f) -> INTEGER r; EXCEPTIONS no_read: NOT cls(f) <= clr(u); EFFECTS r = data(f);
+OFUN write(user u; file f; INTEGER x); EXCEPTIONS no_write: NOT clr(u) <= cls(f); EFFECTS 'data(f) = x;
+END_MODULE";
+
+const LEAKY: &[u8] = b"MODULE files
+TYPES user: DESIGNATOR; file: DESIGNATOR;
+PARAMETERS LEVEL clr(user u); LEVEL cls(file f);
+FUNCTIONS
+VFUN data(file f) -> INTEGER; HIDDEN; INITIALLY 0;
+OVFUN read(user u; file f) -> INTEGER r; EXCEPTIONS no_read: NOT cls(f) <= clr(u); EFFECTS r = data(f);
+OFUN write(user u; file f; INTEGER x); EFFECTS 'data(f) = x;
+END_MODULE";
+
+const SMALL: &[u8] = b"INSTANCE small
+POPULATION user = {alice, bob}; POPULATION file = {memo, plan};
+PARAMETER clr: (alice) = HIGH; OTHERWISE LOW;
+PARAMETER cls: (plan) = HIGH; OTHERWISE LOW;
+END_INSTANCE";
+
+const LEAK: &[u8] = b"write(alice, memo, 7); read(bob, memo);";
+
+const RUN: [&str; 4] = ["run", "files.iface", "small.inst", "s.script"];
+
+// The files of the interface above, with this module and this script.
+fn texts<'a>(module: &'a [u8], script: &'a [u8]) -> Files<'a> {
+    [
+        ("files.iface", FILES),
+        ("files.special", module),
+        ("small.inst", SMALL),
+        ("s.script", script),
+    ]
+}
+
+#[test]
+fn answers_are_printed(rt: HostRuntime) -> Result<(), Fail> {
+    let alloc = rt.alloc();
+    let rows: [(&[u8], &[u8]); 2] = [
+        (
+            LEAKY,
+            b"INTERFACE files\n0 write(alice,memo,7) DONE\n1 read(bob,memo) VALUE 7\nEND 2\n",
+        ),
+        (
+            GUARDED,
+            b"INTERFACE files\n0 write(alice,memo,7) EXCEPTION no_write\n1 read(bob,memo) VALUE 0\nEND 2\n",
+        ),
+    ];
+    for (module, printed) in rows {
+        let (status, out) = outcome_of(alloc, &RUN, texts(module, LEAK), Vec::new(alloc), 200)?;
+        assert_eq!(rt; status.code(), 0);
+        assert_eq!(rt; out.bytes(), printed);
+    }
+    Ok(())
+}
+
+#[test]
+fn runs_are_compared(rt: HostRuntime) -> Result<(), Fail> {
+    let alloc = rt.alloc();
+    let rows: [(&[u8], &str, u8, &[u8]); 4] = [
+        (
+            LEAKY,
+            "LOW",
+            1,
+            b"INTERFACE files\nLEVEL LOW\nDIFFERS 1 VALUE 7 VALUE 0\n",
+        ),
+        (GUARDED, "LOW", 0, b"INTERFACE files\nLEVEL LOW\nSAME 1\n"),
+        (GUARDED, "TOP", 0, b"INTERFACE files\nLEVEL HIGH\nSAME 2\n"),
+        (LEAKY, "MID", 2, b"MALFORMED LEVEL 0 3 UnknownName\n"),
+    ];
+    for (module, level, code, printed) in rows {
+        let words = ["compare", "files.iface", "small.inst", "s.script", level];
+        let (status, out) = outcome_of(alloc, &words, texts(module, LEAK), Vec::new(alloc), 200)?;
+        assert_eq!(rt; status.code(), code);
+        assert_eq!(rt; out.bytes(), printed);
+    }
+    Ok(())
+}
+
+#[test]
+fn scripts_are_judged(rt: HostRuntime) -> Result<(), Fail> {
+    let alloc = rt.alloc();
+    let rows: [(&[u8], &[u8]); 5] = [
+        (b"data(memo);", b"MALFORMED s.script 0 4 NotVisible\n"),
+        (
+            b"read(carol, memo);",
+            b"MALFORMED s.script 5 10 NotInPopulation\n",
+        ),
+        (b"read(?, memo);", b"MALFORMED s.script 5 6 NotProper\n"),
+        (b"read(bob);", b"MALFORMED s.script 0 4 WrongCount\n"),
+        (
+            b"read(bob, memo)",
+            b"MALFORMED s.script 15 15 Unexpected\n",
+        ),
+    ];
+    for (script, printed) in rows {
+        let (status, out) =
+            outcome_of(alloc, &RUN, texts(GUARDED, script), Vec::new(alloc), 200)?;
+        assert_eq!(rt; status.code(), 2);
+        assert_eq!(rt; out.bytes(), printed);
+    }
+    Ok(())
+}

@@ -1,0 +1,5 @@
+pub mod Lawful
+pub mod Runs
+mod Few
+mod Printing
+mod Values

@@ -1,0 +1,4 @@
+pub mod Lines
+pub mod Prepared
+pub mod Printed
+pub mod Run

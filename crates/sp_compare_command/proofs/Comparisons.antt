@@ -117,7 +117,7 @@ module _ (m : Machine) (l : ℕ) where
         let seen_at = kept_answer (take k list) (take k as') n i x (taken_there list n k i h d.there) d.kept (taken_there as' n k x h d.whole) in
         let number : kept_before m l (take k list) n ≡ kept_before m l list n = ap (λ (ks : List Invocation). length (purge m l ks)) (taken_taken list n k h) in
         let there : slice_get (take (kept_before m l list k) bs) (kept_before m l list n) ≡ Some x =
-            (λ q. slice_get (sym e.earlier q) (sym number q)) ∙ seen_at in
+        (λ q. slice_get (sym e.earlier q) (sym number q)) ∙ seen_at in
         d.differ (same_there bs (kept_before m l list n) x y (taken_has bs (kept_before m l list k) (kept_before m l list n) x there) d.purged)
 
     not_same : (k : ℕ) (u v : Answer) (j : Invocation) → seen m l list as' ≡ bs → IsDifferenceAt m l list as' bs k u v j → ⊥
@@ -174,8 +174,8 @@ module _ (m : Machine) (l : ℕ) where
             at_both : (cs ds : List Answer) (t u : Store) (i j : Invocation) → BreaksWholeAt m s list f.at f.fault cs t i → BreaksWholeAt m s list g.at g.fault ds u j → AreSame f g
             at_both cs ds t u i j b d =
                 let one = breaks_one m law one_law list s f.at g.at cs ds t u i j f.fault g.fault
-                  (record { run = b.run; there = b.refused.there; refused = b.refused.fault; definite = is })
-                  (record { run = d.run; there = d.refused.there; refused = d.refused.fault; definite = also }) in
+                (record { run = b.run; there = b.refused.there; refused = b.refused.fault; definite = is })
+                (record { run = d.run; there = d.refused.there; refused = d.refused.fault; definite = also }) in
                 record { purged = v.whole ∙ sym w.whole; at = one.number; fault = one.fault }
 
             by : (f.fault ≡ fault.Memory) ⊎ BreaksWhole m s list f.at f.fault → (g.fault ≡ fault.Memory) ⊎ BreaksWhole m s list g.at g.fault → AreSame f g
@@ -189,18 +189,18 @@ module _ (m : Machine) (l : ℕ) where
             at_both : (cs ds : List Answer) (t u : Store) (i j : Invocation) → BreaksPurgedAt m s l list f.at f.fault cs t i → BreaksPurgedAt m s l list g.at g.fault ds u j → AreSame f g
             at_both cs ds t u i j b d =
                 let one = breaks_one m law one_law (purge m l list) s (kept_before m l list f.at) (kept_before m l list g.at) cs ds t u i j f.fault g.fault
-                  (record {
-                    run = subst (λ js. RunsWithin m s js cs t) (sym (kept_front list f.at)) b.run;
-                    there = kept_there list f.at i b.refused.there b.kept;
-                    refused = b.refused.fault;
-                    definite = is;
-                  })
-                  (record {
-                    run = subst (λ js. RunsWithin m s js ds u) (sym (kept_front list g.at)) d.run;
-                    there = kept_there list g.at j d.refused.there d.kept;
-                    refused = d.refused.fault;
-                    definite = also;
-                  }) in
+                (record {
+                  run = subst (λ js. RunsWithin m s js cs t) (sym (kept_front list f.at)) b.run;
+                  there = kept_there list f.at i b.refused.there b.kept;
+                  refused = b.refused.fault;
+                  definite = is;
+                })
+                (record {
+                  run = subst (λ js. RunsWithin m s js ds u) (sym (kept_front list g.at)) d.run;
+                  there = kept_there list g.at j d.refused.there d.kept;
+                  refused = d.refused.fault;
+                  definite = also;
+                }) in
                 record { purged = v.purged ∙ sym w.purged; at = kept_number list f.at g.at i j b.refused.there d.refused.there b.kept d.kept one.number; fault = one.fault }
 
             by : (f.fault ≡ fault.Memory) ⊎ BreaksPurged m s l list f.at f.fault → (g.fault ≡ fault.Memory) ⊎ BreaksPurged m s l list g.at g.fault → AreSame f g

@@ -26,8 +26,8 @@ use Rattle.sp_run_command.specs.Lines.{Lines}
 use Rattle.sp_run_command.specs.Prepared.{RunPrepared, RunRead}
 use Rattle.sp_run_command.specs.Printed.{conflict_text, interface_line}
 use Rattle.sp_run_command.specs.Run.{full_at}
-use Rattle.sp_run_command.specs.declared.prepare.Prepared.{Prepared}
-use Rattle.sp_run_command.specs.declared.prepare.RunTexts.{RunTexts}
+use Rattle.sp_run_command.specs.declared.texts.Prepared.{Prepared}
+use Rattle.sp_run_command.specs.declared.texts.RunTexts.{RunTexts}
 
 -- the word is judged as a level of the specification
 abbrev pub SpecLevelJudged : Parts → List ℕ → Step ℕ

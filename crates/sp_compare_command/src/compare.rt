@@ -35,9 +35,7 @@ pub fn compare_command<L: Library>(
     ensures { Loads L.told L.faults lib.old lib.new (λ files. Printing spells (CompareDone interface.now instance.now script.now level.now files)) result }
 {
     let texts = load_run(alloc, lib, interface, instance, script)?;
-    as_loading(compare_work(
-        alloc, interface, instance, script, level, &texts,
-    ))
+    as_loading(compare_work(alloc, interface, instance, script, level, &texts))
 }
 
 // The work over the texts.

@@ -23,7 +23,7 @@ use Rattle.sp_system.proofs.Lawful.{instance_lawful, judged_once, judged_system_
 use Rattle.sp_run_command.specs.Lines.{Lines}
 use Rattle.sp_run_command.specs.Prepared.{RunPrepared, RunRead}
 use Rattle.sp_run_command.specs.Run.{IsBroken, RunDone, RunPrinted, full_at, run_text}
-use Rattle.sp_run_command.specs.declared.prepare.RunTexts.{RunTexts}
+use Rattle.sp_run_command.specs.declared.texts.RunTexts.{RunTexts}
 use Rattle.sp_run_command.proofs.Runs.{IsBreak, broken, breaks_one, runs_one}
 
 module _ (files : Files) where

@@ -1,5 +1,6 @@
 pub mod Lawful
 pub mod Runs
 mod Few
+mod Lines
 mod Printing
-mod Values
+mod Members

@@ -17,8 +17,8 @@ use Rattle.sp_sorts.specs.Sorts.{instances, scripts}
 use Rattle.sp_sorts.specs.Texts.{Answered, TreeRead}
 use Rattle.sp_system.specs.Instances.{InstanceJudged}
 use Rattle.sp_system.specs.System.{SystemJudged, SystemRead}
-use Rattle.sp_run_command.specs.declared.prepare.Prepared.{Prepared}
-use Rattle.sp_run_command.specs.declared.prepare.RunTexts.{RunTexts}
+use Rattle.sp_run_command.specs.declared.texts.Prepared.{Prepared}
+use Rattle.sp_run_command.specs.declared.texts.RunTexts.{RunTexts}
 
 -- the texts are read: those of the system, the instance, the script
 abbrev pub RunRead : List ℕ → List ℕ → List ℕ → Files → Step RunTexts

@@ -24,8 +24,8 @@ use Rattle.sp_frame.specs.Steps.{Step, Then}
 use Rattle.sp_run_command.specs.Lines.{Lines}
 use Rattle.sp_run_command.specs.Prepared.{RunPrepared, RunRead}
 use Rattle.sp_run_command.specs.Printed.{answer_lines, conflict_text, interface_line}
-use Rattle.sp_run_command.specs.declared.prepare.Prepared.{Prepared}
-use Rattle.sp_run_command.specs.declared.prepare.RunTexts.{RunTexts}
+use Rattle.sp_run_command.specs.declared.texts.Prepared.{Prepared}
+use Rattle.sp_run_command.specs.declared.texts.RunTexts.{RunTexts}
 
 -- the state would have too many entries after the invocation of this number
 abbrev pub full_at : ℕ → Refusal

@@ -2,13 +2,13 @@
 #![tactic(auto)]
 
 mod laws;
-mod prepare;
 mod printed;
 mod run;
+mod texts;
 mod values;
 
 pub use laws::run_law;
-pub use prepare::{Prepared, RunTexts, load_run, prepare};
 pub use printed::{push_answer, push_conflict, push_count, push_interface};
 pub use run::{full_at, run_command};
+pub use texts::{Prepared, RunTexts, load_run, prepare};
 pub use values::level_name;

@@ -10,8 +10,8 @@ ghost use Rattle.sp_run_command.specs.Prepared.{IsPrepared};
 ghost use Rattle.sp_run_command.specs.Run as definitions;
 ghost use Rattle.sp_run_command.specs.Run.{IsBroken, RunAnswered, RunDone, RunWork, run_text};
 
-use crate::prepare::{Prepared, RunTexts, load_run, prepare};
 use crate::printed::{push_conflict, push_count, push_interface, push_lines};
+use crate::texts::{Prepared, RunTexts, load_run, prepare};
 use sp_animator::{RunFault, animate};
 use sp_core::{Answer, State};
 use sp_frame::{LoadStop, Printed, Refusal, Stop, Verdict, WorkLimit, WorkPlace, as_loading};

@@ -50,6 +50,7 @@ pub fn level_name(spec: &Spec, level: u16) -> &[u8]
 }
 
 // The name of a member of a type, or nothing.
+#[tactic(auto, using(crate::proofs::Members::as_many, crate::proofs::Members::no_member, crate::proofs::Members::no_type))]
 fn member_name<'a>(spec: &Spec, instance: &'a Instance, ty: u16, member: u16) -> &'a [u8]
     requires { IsInstanceOf spec.now instance.now }
     ensures { result.now ≡ nth_name (slice_index_or instance.now.members ty []) member }

@@ -7,6 +7,7 @@ ghost use Rattle.sp_core.specs.Instances.{IsInstanceOf, filling_of, machine_of};
 ghost use Rattle.sp_core.specs.Machine.{IsInvocation};
 ghost use Rattle.sp_frame.specs.Loads.{Loads};
 ghost use Rattle.sp_frame.specs.Steps.{Does, Judged, Tells};
+ghost use Rattle.sp_system.specs.Instances.{InstanceJudged};
 ghost use Rattle.sp_run_command.specs.Prepared.{IsPrepared, RunPrepared, RunRead, ScriptMade};
 
 use sp_core::{Instance, Spec};
@@ -76,18 +77,26 @@ pub fn prepare(
     ensures prepared { IfOk result IsPrepared }
 {
     let elaborated = judge_system(alloc, interface, &texts.system)?;
-    let instance = judge_instance(
-        alloc,
-        &elaborated.spec,
-        instance.as_bytes(),
-        &texts.instance,
-    )?;
+    let instance = instance_in(alloc, &elaborated.spec, instance, &texts.instance)?;
     let script = script_in(alloc, &elaborated.spec, &instance, script, &texts.script)?;
     Ok(Prepared {
         elaborated,
         instance,
         script,
     })
+}
+
+// The instance in this file.
+fn instance_in(
+    alloc: Global,
+    spec: &Spec,
+    file: &str,
+    tree: &InstanceTree,
+) -> Result<Instance, Stop>
+    ensures does { Does (InstanceJudged spec.now file.now tree.now) result }
+    ensures instance { IfOk result (IsInstanceOf spec.now) }
+{
+    judge_instance(alloc, spec, file.as_bytes(), tree)
 }
 
 // The invocations of the script in this file.

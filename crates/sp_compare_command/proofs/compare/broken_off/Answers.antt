@@ -1,0 +1,19 @@
+use Rattle.std.proofs.Common.{Ok, refl, subst, sym}
+use Rattle.sp_stepping.specs.declared.fault.StepFault.{StepFault}
+use Rattle.sp_frame.specs.declared.refusal.Verdict.TheVariants as verdict
+use Rattle.sp_frame.specs.Endings.{printed}
+use Rattle.sp_compare_command.specs.Compare.{IsBroken, conflict_lines}
+use Rattle.sp_compare_command.proofs.compare.broken_off.Goals as goal
+
+pub returns-in_ok-conflict_lines-in-Conflict : goal.returns-in_ok-conflict_lines-in-Conflict
+returns-in_ok-conflict_lines-in-Conflict c =
+    let p = c.args.x.now.elaborated.spec in
+    let i = c.args.x.now.instance in
+    let js = c.args.x.now.script in
+    let f = c.args.found.now in
+    let lines = conflict_lines p i c.args.level f.purged f.at c.in-Conflict.place c.in-Conflict.first c.in-Conflict.second in (
+      printed lines verdict.Conflict,
+      subst (λ (e : StepFault). IsBroken p i js c.args.level f.purged f.at e (Ok (printed lines verdict.Conflict))) (sym c.in-Conflict.is) refl,
+      c.in_ok-conflict_lines-in-Conflict.ensures,
+      refl,
+    )

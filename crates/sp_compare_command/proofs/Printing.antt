@@ -1,5 +1,5 @@
 -- What is printed of a comparison, and of a run that breaks off, as what comes of comparing.
-use Rattle.std.proofs.Common.{◌≡◌, ◌∙◌, ℕ, ◌<◌, ◌≤◌, List, [], Result, Ok, Err, arith, inl, inr, length, sym, subst}
+use Rattle.std.proofs.Common.{◌≡◌, ◌∙◌, ℕ, ◌<◌, ◌≤◌, List, [], Result, Ok, Err, arith, inl, inr, length, refl, sym, subst}
 use Rattle.std.proofs.lemmas.Option.{slice_get_within}
 use Rattle.sp_values.specs.declared.place.Invocation.{Invocation}
 use Rattle.sp_core.specs.declared.state.Entry.{Entry}
@@ -16,7 +16,10 @@ use Rattle.sp_frame.specs.declared.refusal.Stop.TheVariants as stop
 use Rattle.sp_frame.specs.Endings.{Printing}
 use Rattle.sp_frame.specs.Steps.{Does}
 use Rattle.sp_run_command.specs.Lines.{spells}
-use Rattle.sp_compare_command.specs.Compare.{ComparePrinted, IsBroken, IsCompared}
+use Rattle.sp_run_command.specs.Prepared.{RunPrepared}
+use Rattle.sp_run_command.specs.declared.texts.Prepared.{Prepared}
+use Rattle.sp_run_command.specs.declared.texts.RunTexts.{RunTexts}
+use Rattle.sp_compare_command.specs.Compare.{ComparePrinted, CompareWork, IsBroken, IsCompared, SpecLevelJudged}
 
 module _ (p : Parts) (i : InstanceParts) (js : List Invocation) (l : ℕ) where
   -- both runs from a state without entries are compared
@@ -56,3 +59,9 @@ module _ (p : Parts) (i : InstanceParts) (js : List Invocation) (l : ℕ) where
 
   pub full_number : (es : List Entry) (f : CompareFault) → IsCompareFault (machine_of p (filling_of i)) (entry_of es) l js f → length js ≤ 10000 → f.fault ≡ fault.StateFull → f.at < 10000
   full_number es f b few is = full_by es f few is b
+
+-- the work ends with the word for a level
+pub after_level : (interface instance script level : List ℕ) (t : RunTexts) (x : Prepared) (s : Stop) → RunPrepared interface instance script t (Ok x) → Does (SpecLevelJudged x.elaborated.spec level) (Err s)
+    → Does (Printing spells (CompareWork interface instance script level t)) (Err s)
+after_level interface instance script level t x (stop.Refused r) first h = (Ok x, first, (Err r, h, refl))
+after_level interface instance script level t x stop.Memory first h = tt

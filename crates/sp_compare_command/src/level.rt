@@ -19,8 +19,17 @@ pub fn level_of(alloc: Global, spec: &Spec, word: &str) -> Result<u16, Stop>
     ensures level { IfOk result (λ l. l < spec.now.lattice.count) }
 {
     let names = level_names(alloc, spec)?;
+    level_among(alloc, spec, &names, word)
+}
+
+// The level that the word is, of the specification's levels with their names.
+fn level_among(alloc: Global, spec: &Spec, names: &[Name], word: &str) -> Result<u16, Stop>
+    requires { names.now ≡ spec.now.level_names }
+    ensures does { Does (SpecLevelJudged spec.now word.now) result }
+    ensures level { IfOk result (λ l. l < spec.now.lattice.count) }
+{
     let lattice = spec.lattice();
-    judge_level(alloc, &names, lattice.bottom(), lattice.top(), word)
+    judge_level(alloc, names, lattice.bottom(), lattice.top(), word)
 }
 
 // The names of the levels.

@@ -99,14 +99,10 @@ fn scripts_are_judged(rt: HostRuntime) -> Result<(), Fail> {
         ),
         (b"read(?, memo);", b"MALFORMED s.script 5 6 NotProper\n"),
         (b"read(bob);", b"MALFORMED s.script 0 4 WrongCount\n"),
-        (
-            b"read(bob, memo)",
-            b"MALFORMED s.script 15 15 Unexpected\n",
-        ),
+        (b"read(bob, memo)", b"MALFORMED s.script 15 15 Unexpected\n"),
     ];
     for (script, printed) in rows {
-        let (status, out) =
-            outcome_of(alloc, &RUN, texts(GUARDED, script), Vec::new(alloc), 200)?;
+        let (status, out) = outcome_of(alloc, &RUN, texts(GUARDED, script), Vec::new(alloc), 200)?;
         assert_eq!(rt; status.code(), 2);
         assert_eq!(rt; out.bytes(), printed);
     }

@@ -45,7 +45,7 @@ pub fn read_words<'a>(alloc: Global, words: &'a [String]) -> Result<Command<'a>,
 
 // The command of a form of words.
 fn built<'a>(form: Form<'a>) -> Option<Command<'a>>
-    ensures { option_map command_meant result ≡ meaning.built (forms.command_meant form) }
+    ensures { option_map command_meant result ≡ meaning.built (forms.command_meant form.entry) }
 {
     match form {
         Form::Run {

@@ -40,7 +40,7 @@ fn nodes_up_to_1024(rt: HostRuntime) {
 fn expansion_is_refused_at_once(rt: HostRuntime) {
     let alloc = rt.alloc();
     assert_eq!(rt;
-        doubled(alloc, 400, b"e8() AND e8()"),
+        doubled(alloc, 510, b"e8() AND e8()"),
         exceeds(0, 13, Quantity::ExpressionNodes)
     );
 }

@@ -81,11 +81,12 @@ PARAMETER cls: (plan) = HIGH; OTHERWISE LOW;
 END_INSTANCE",
 };
 
-const OF_FILES: [Broken; 4] = [
+const OF_FILES: [Broken; 5] = [
     (b"data(memo);", 0, 4, Rule::NotVisible),
     (b"read(carol, memo);", 5, 10, Rule::NotInPopulation),
     (b"read(?, memo);", 5, 6, Rule::NotProper),
     (b"read(bob);", 0, 4, Rule::WrongCount),
+    (b"read(bob, memo)", 15, 15, Rule::Unexpected),
 ];
 
 #[test]
@@ -103,4 +104,34 @@ fn scripts_of_files(rt: HostRuntime) {
 fn a_worked_script(rt: HostRuntime) {
     let text = b"write(alice, memo, 7); read(bob, memo);";
     assert_eq!(rt; count(rt.alloc(), &FILES, text), Ok(2));
+}
+
+const FILLED: System = System {
+    interface: b"INTERFACE m MODULES m; LATTICE LOW; LEVEL data(f) IS LOW; LEVEL fill(x) IS LOW;
+SAMPLE s; END_INTERFACE",
+    module: b"MODULE m TYPES file: DESIGNATOR; FUNCTIONS
+VFUN data(file f) -> INTEGER; INITIALLY 0;
+OFUN fill(INTEGER x); EFFECTS FORALL file f: 'data(f) = x; END_FORALL; END_MODULE",
+    instance: b"INSTANCE s POPULATION file = {f0, f1}; END_INSTANCE",
+};
+
+#[test]
+fn a_file_that_no_population_has(rt: HostRuntime) {
+    let alloc = rt.alloc();
+    assert_eq!(rt;
+        count(alloc, &FILLED, b"data(z);"),
+        Err(breaks(5, 6, Rule::NotInPopulation))
+    );
+    assert_eq!(rt; count(alloc, &FILLED, b"fill(5); data(f1);"), Ok(2));
+}
+
+const REFUSING: System = System {
+    interface: b"INTERFACE m MODULES m; LATTICE LOW; LEVEL op() IS LOW; SAMPLE s; END_INTERFACE",
+    module: b"MODULE m FUNCTIONS OFUN op(); EXCEPTIONS first: TRUE; second: TRUE; EFFECTS END_MODULE",
+    instance: b"INSTANCE s END_INSTANCE",
+};
+
+#[test]
+fn a_call_without_values(rt: HostRuntime) {
+    assert_eq!(rt; count(rt.alloc(), &REFUSING, b"op();"), Ok(1));
 }

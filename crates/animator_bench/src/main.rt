@@ -62,7 +62,7 @@ fn told(alloc: Global, ended: &Ran, entries: u64) -> anyhow::Result<String> {
 
 /// Runs a script of so many marks and swaps so often, and tells how the last run ended.
 fn timed(alloc: Global, marks: u32, swaps: u32, times: u32) -> anyhow::Result<String> {
-    let text = script(alloc, marks, swaps)?;
+    let text = script(alloc, marks, swaps).map_err(|fault| anyhow!("{fault:?}"))?;
     let (ended, entries) = run_often(alloc, text.as_slice(), times).map_err(|fault| anyhow!(
         "{fault:?}"
     ))?;

@@ -107,7 +107,7 @@ fn script(
 }
 
 // How a run ended, seen at one of its answers.
-fn ran(at: usize, answers: &[Answer]) -> Ran {
+fn seen_at(at: usize, answers: &[Answer]) -> Ran {
     Ran::Answers(answers.get(at).copied())
 }
 
@@ -131,7 +131,7 @@ pub fn run(alloc: Global, texts: &Texts<'_>, at: usize) -> Result<(Ran, u64), Te
     let list = script(alloc, &spec, &inst, texts)?;
     let mut state = State::new(alloc);
     let ended = match animate(alloc, &spec, &inst, &mut state, list.as_slice()) {
-        Ok(answers) => ran(at, answers.as_slice()),
+        Ok(answers) => seen_at(at, answers.as_slice()),
         Err(broken) => broken_off(broken.at, &broken.fault)?,
     };
     Ok((ended, state.len()))

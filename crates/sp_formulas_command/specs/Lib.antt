@@ -1,0 +1,4 @@
+pub mod Formulas
+pub mod Lines
+pub mod Listed
+pub mod Printed

@@ -1,0 +1,11 @@
+//! `formulas`: the flow formulas of an interface.
+#![tactic(auto)]
+
+mod formulas;
+mod laws;
+mod listed;
+mod printed;
+
+pub use formulas::formulas_command;
+pub use laws::formulas_law;
+pub use listed::list_formulas;

@@ -1,0 +1,73 @@
+//! The lines of a list of formulas.
+
+ghost use Rattle.std.specs.Prelude.{◌≡◌, ◌≤◌, ◌++◌, IfOk, OnOk, decimal, length, map};
+ghost use Rattle.sp_text.specs.declared.limits.TheConstants.{MOST_FORMULAS};
+ghost use Rattle.sp_formulas.specs.Formulas.{formula_as};
+ghost use Rattle.sp_formulas_command.specs.Printed.{formula_lines, interface_line, list_lines, list_text};
+
+use itoa::Buffer;
+use sp_core::Spec;
+use sp_report::print_formula;
+use sp_sequent::Formula;
+use sp_text::{Memory, push_text};
+use std::alloc::Global;
+
+// Appends `INTERFACE name`.
+fn push_interface(alloc: Global, out: &mut Vec<u8>, spec: &Spec) -> Result<(), Memory>
+    ensures { OnOk result (out.new.items ≡ out.old.items ++ interface_line spec.now) }
+{
+    push_text(alloc, out, b"INTERFACE ")?;
+    push_text(alloc, out, spec.name().bytes())?;
+    push_text(alloc, out, b"\n")
+}
+
+// Appends a count in decimal.
+fn push_count(alloc: Global, out: &mut Vec<u8>, count: usize) -> Result<(), Memory>
+    ensures { OnOk result (out.new.items ≡ out.old.items ++ decimal count) }
+{
+    let mut buffer = Buffer::new();
+    push_text(alloc, out, buffer.format(count).as_bytes())
+}
+
+// Appends the lines of the formula of this number.
+fn push_formula(
+    alloc: Global,
+    out: &mut Vec<u8>,
+    spec: &Spec,
+    number: u32,
+    formula: &Formula,
+) -> Result<(), Memory>
+    ensures { OnOk result (out.new.items ≡ out.old.items ++ formula_lines spec.now number (formula_as formula.now)) }
+{
+    print_formula(alloc, spec, number, formula, out)
+}
+
+// Appends the lines of formulas, numbered from 1.
+fn push_formulas(
+    alloc: Global,
+    out: &mut Vec<u8>,
+    spec: &Spec,
+    all: &[Formula],
+) -> Result<(), Memory>
+    requires { length all.now ≤ MOST_FORMULAS }
+    ensures { OnOk result (out.new.items ≡ out.old.items ++ list_lines spec.now 1 (map formula_as all.now)) }
+{
+    for (index, formula) in all.iter().enumerate() {
+        push_formula(alloc, out, spec, index as u32 + 1, formula)?;
+    }
+    Ok(())
+}
+
+/// The lines of all formulas, and how many they are.
+pub fn list_lines(alloc: Global, spec: &Spec, all: &[Formula]) -> Result<Vec<u8>, Memory>
+    requires { length all.now ≤ MOST_FORMULAS }
+    ensures { IfOk result (λ text. text.items ≡ list_text spec.now (map formula_as all.now)) }
+{
+    let mut out = Vec::new(alloc);
+    push_interface(alloc, &mut out, spec)?;
+    push_formulas(alloc, &mut out, spec, all)?;
+    push_text(alloc, &mut out, b"FORMULAS ")?;
+    push_count(alloc, &mut out, all.len())?;
+    push_text(alloc, &mut out, b"\n")?;
+    Ok(out)
+}

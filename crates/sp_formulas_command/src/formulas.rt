@@ -7,7 +7,7 @@ ghost use Rattle.sp_formulas_command.specs.Formulas.{FormulasDone, FormulasWork,
 ghost use Rattle.sp_formulas_command.specs.Lines.{spells};
 
 use crate::listed::list_formulas;
-use crate::printed::list_lines;
+use crate::printed::report_lines;
 use sp_core::Spec;
 use sp_frame::{LoadStop, Printed, Stop, Verdict, as_loading};
 use sp_outside::Library;
@@ -46,7 +46,7 @@ fn listed(alloc: Global, spec: &Spec) -> Result<Printed, Stop>
 {
     let all = list_formulas(alloc, spec)?;
     Ok(Printed {
-        bytes: list_lines(alloc, spec, &all)?,
+        bytes: report_lines(alloc, spec, &all)?,
         verdict: Verdict::Ok,
     })
 }

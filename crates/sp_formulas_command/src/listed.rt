@@ -1,6 +1,6 @@
 //! The list of the flow formulas of a specification.
 
-ghost use Rattle.std.specs.Prelude.{◌≤◌, IfErr, IfOk, Ok, Err, length, map};
+ghost use Rattle.std.specs.Prelude.{◌≡◌, ◌≤◌, IfErr, IfOk, length, map};
 ghost use Rattle.sp_text.specs.declared.limits.TheConstants.{MOST_FORMULAS};
 ghost use Rattle.sp_formulas.specs.Formulas.{formula_as};
 ghost use Rattle.sp_frame.specs.Steps.{Does};

@@ -59,7 +59,7 @@ fn push_formulas(
 }
 
 /// The lines of all formulas, and how many they are.
-pub fn list_lines(alloc: Global, spec: &Spec, all: &[Formula]) -> Result<Vec<u8>, Memory>
+pub fn report_lines(alloc: Global, spec: &Spec, all: &[Formula]) -> Result<Vec<u8>, Memory>
     requires { length all.now ≤ MOST_FORMULAS }
     ensures { IfOk result (λ text. text.items ≡ list_text spec.now (map formula_as all.now)) }
 {

@@ -2,6 +2,7 @@
 use Rattle.std.proofs.Common.{◌≡◌, ◌∙◌, List, Option, None, Some, Result, Ok, Err, inl, inr, sym, subst}
 use Rattle.sp_outside.specs.Files.{Files}
 use Rattle.sp_text.specs.declared.fault.Quantity.{Quantity}
+use Rattle.sp_text.specs.declared.fault.Quantity.TheVariants as quantity
 use Rattle.sp_core.specs.Parts.{Parts}
 use Rattle.sp_formulas.specs.declared.fault.FormulaFault.{FormulaFault}
 use Rattle.sp_formulas.specs.declared.fault.FormulaFault.TheVariants as fault
@@ -9,6 +10,7 @@ use Rattle.sp_formulas.specs.Formulas.{Formula, formulas}
 use Rattle.sp_formulas.specs.Limits.{first_fault}
 use Rattle.sp_frame.specs.declared.refusal.Refusal.{Refusal}
 use Rattle.sp_frame.specs.declared.refusal.WorkPlace.{WorkPlace}
+use Rattle.sp_frame.specs.declared.refusal.WorkPlace.TheVariants as place
 use Rattle.sp_frame.specs.Laws.{IsDue, IsLawful}
 use Rattle.sp_formulas_command.specs.Listed.{FormulasListed, IsLimited, exceeded_at}
 
@@ -26,14 +28,14 @@ never_both : (o : Option FormulaFault) (f : FormulaFault) → o ≡ None → o �
 never_both o f h k = absurd cc
 
 module _ (files : Files) where
-  at_due : (q : Quantity) (at : WorkPlace) (r : Refusal) → Err {T = List Formula} r ≡ Err (exceeded_at q at) → IsDue files r
-  at_due q at r h = let same : r ≡ exceeded_at q at = cc in subst (IsDue files) (sym same) tt
+  at_due : (q : Quantity) (at : WorkPlace) (r : Refusal) → r ≡ exceeded_at q at → IsDue files r
+  at_due q at r same = subst (IsDue files) (sym same) tt
 
   limited_due : (f : FormulaFault) (r : Refusal) → IsLimited f (Err r) → IsDue files r
-  limited_due fault.TooManyFormulas r h = at_due _ _ r h
-  limited_due (fault.TooManyInstances n) r h = at_due _ _ r h
-  limited_due (fault.TooManyNodes n) r h = at_due _ _ r h
-  limited_due (fault.TooManyTerms n) r h = at_due _ _ r h
+  limited_due fault.TooManyFormulas r h = at_due quantity.Formulas place.Interface r cc
+  limited_due (fault.TooManyInstances n) r h = at_due quantity.AssertionInstances (place.Formula n) r cc
+  limited_due (fault.TooManyNodes n) r h = at_due quantity.FormulaNodes (place.Formula n) r cc
+  limited_due (fault.TooManyTerms n) r h = at_due quantity.Terms (place.Formula n) r cc
   limited_due fault.Memory r h = absurd h
 
   module _ (p : Parts) where

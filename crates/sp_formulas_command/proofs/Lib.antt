@@ -1,3 +1,3 @@
 pub mod Lawful
 pub mod ListLaws
-pub mod Listing
+mod Listing

@@ -1,16 +1,10 @@
 -- The work of `formulas` comes to one outcome at most, and its refusals hold of the files.
-use Rattle.std.proofs.Common.{◌≡◌, ◌∙◌, ℕ, List, Option, None, Some, Result, Ok, Err, inl, inr, refl, sym, subst}
+use Rattle.std.proofs.Common.{ℕ, List}
 use Rattle.sp_outside.specs.Files.{Files}
-use Rattle.sp_core.specs.Parts.{Parts}
-use Rattle.sp_formulas.specs.declared.fault.FormulaFault.{FormulaFault}
-use Rattle.sp_formulas.specs.declared.fault.FormulaFault.TheVariants as fault
-use Rattle.sp_formulas.specs.Formulas.{Formula}
-use Rattle.sp_frame.specs.declared.refusal.Refusal.{Refusal}
-use Rattle.sp_frame.specs.Laws.{IsDue, IsLawful}
+use Rattle.sp_frame.specs.Laws.{IsLawful}
 use Rattle.sp_frame.proofs.Lawful.{gives_lawful, then_lawful}
 use Rattle.sp_system.proofs.Lawful.{judged_system_lawful, read_lawful}
 use Rattle.sp_formulas_command.specs.Formulas.{FormulasDone, list_printed}
-use Rattle.sp_formulas_command.specs.Listed.{FormulasListed}
 use Rattle.sp_formulas_command.proofs.ListLaws.{listed_lawful}
 
 module _ (files : Files) where

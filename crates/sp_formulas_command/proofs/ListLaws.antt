@@ -1,5 +1,5 @@
 -- Listing the formulas comes to one outcome, and its refusals say nothing of files.
-use Rattle.std.proofs.Common.{◌≡◌, ◌∙◌, List, Option, None, Some, Result, Ok, Err, inl, inr, sym, subst}
+use Rattle.std.proofs.Common.{◌≡◌, ◌∙◌, List, Option, None, Some, Result, Err, inl, inr, sym, subst}
 use Rattle.sp_outside.specs.Files.{Files}
 use Rattle.sp_text.specs.declared.fault.Quantity.{Quantity}
 use Rattle.sp_text.specs.declared.fault.Quantity.TheVariants as quantity

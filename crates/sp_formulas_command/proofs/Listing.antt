@@ -1,5 +1,5 @@
 -- What the generator answers, as the step that lists the formulas.
-use Rattle.std.proofs.Common.{◌≡◌, ◌≢◌, ◌∙◌, ℕ, zero, suc, ◌+◌, ◌<◌, ◌≤◌, Bool, true, false, nat_lt, if◌then◌else◌, List, [], ◌∷◌, Option, None, Some, Ok, Err, ap, arith, inl, inr, length, map, refl, sym, subst}
+use Rattle.std.proofs.Common.{◌≡◌, ◌∙◌, ℕ, suc, ◌+◌, ◌≤◌, Bool, true, false, nat_lt, if◌then◌else◌, List, [], ◌∷◌, Option, None, Some, Ok, Err, ap, arith, inl, inr, length, map, refl, sym}
 use Rattle.std.proofs.lemmas.Bool.Decides.{nat_tests}
 use Rattle.sp_text.specs.declared.limits.TheConstants.{MOST_FORMULAS}
 use Rattle.sp_core.specs.Parts.{Parts}

@@ -1,6 +1,6 @@
 -- The step with which the work on formulas begins: the list of the flow formulas of a specification, or the first limit that is
 -- exceeded along it.
-use Rattle.std.specs.Prelude.{◌≡◌, ◌⊎◌, ℕ, List, None, Some, Ok, Err}
+use Rattle.std.specs.Prelude.{◌≡◌, ◌⊎◌, List, None, Some, Ok, Err}
 use Rattle.sp_text.specs.declared.fault.Quantity.{Quantity}
 use Rattle.sp_text.specs.declared.fault.Quantity.TheVariants as quantity
 use Rattle.sp_core.specs.Parts.{Parts}

@@ -8,6 +8,7 @@ ghost use Rattle.sp_driver.specs.Laws.{CommandLaw};
 ghost use Rattle.sp_driver.specs.Report.{Ends};
 
 use sp_compare_command::compare_law;
+use sp_formulas_command::formulas_law;
 use sp_run_command::run_law;
 
 /// The work of each command comes to one outcome at most, and its refusals hold of the files. It does nothing: its clause
@@ -15,6 +16,7 @@ use sp_run_command::run_law;
 pub fn command_law()
     ensures { CommandLaw }
 {
+    formulas_law();
     run_law();
     compare_law();
 }

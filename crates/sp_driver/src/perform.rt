@@ -8,6 +8,7 @@ ghost use Rattle.sp_driver.specs.Report.{CommandDone};
 
 use crate::words::Command;
 use sp_compare_command::compare_command;
+use sp_formulas_command::formulas_command;
 use sp_frame::{LoadStop, Printed};
 use sp_outside::Library;
 use sp_run_command::run_command;
@@ -25,6 +26,7 @@ pub fn perform<L: Library>(
     ensures { Loads L.told L.faults lib.old lib.new (λ files. Printing spells (CommandDone (command_meant command.entry) files)) result }
 {
     match command {
+        Command::Formulas { interface } => formulas_command(alloc, lib, interface),
         Command::Run {
             interface,
             instance,

@@ -13,6 +13,10 @@ use std::alloc::Global;
 /// A command with its words.
 #[derive(Clone, Copy, Debug)]
 pub enum Command<'a> {
+    /// The list of formulas.
+    Formulas {
+        interface: &'a str,
+    },
     /// The answers of a script.
     Run {
         interface: &'a str,
@@ -48,6 +52,7 @@ fn built<'a>(form: Form<'a>) -> Option<Command<'a>>
     ensures { option_map command_meant result ≡ meaning.built (forms.command_meant form.entry) }
 {
     match form {
+        Form::Formulas { interface } => Some(Command::Formulas { interface }),
         Form::Run {
             interface,
             instance,

@@ -11,6 +11,17 @@ VFUN g() -> INTEGER; INITIALLY 0;
 OFUN op(); EFFECTS IF p() THEN 'g() = 1; ELSE END_IF; IF p() THEN 'g() = 2; ELSE END_IF;
 END_MODULE";
 
+const WIDE: &[u8] = b"INTERFACE m MODULES m; LATTICE LOW;
+LEVEL g() IS LOW; LEVEL op(a, b, c, d, e) IS LOW;
+SAMPLE s; END_INTERFACE";
+
+// Its assertion has 125 instances in a formula: as many as there are lists of three of the five arguments.
+const INSTANTIATED: &[u8] = b"MODULE m
+ASSERTIONS FORALL BOOLEAN x: FORALL BOOLEAN y: FORALL BOOLEAN z: TRUE END_FORALL END_FORALL END_FORALL;
+FUNCTIONS VFUN g() -> INTEGER; INITIALLY 0;
+OFUN op(BOOLEAN a; BOOLEAN b; BOOLEAN c; BOOLEAN d; BOOLEAN e); EFFECTS 'g() = 1;
+END_MODULE";
+
 const PLAIN: &[u8] = b"INTERFACE m MODULES m; LATTICE LOW; SAMPLE s; END_INTERFACE";
 
 const CROSSED: &[u8] = b"INTERFACE m MODULES m; LATTICE p, q, r, t;
@@ -48,6 +59,20 @@ fn conflicts_are_told(rt: HostRuntime) -> Result<(), Fail> {
         assert_eq!(rt; status.code(), 8);
         assert_eq!(rt; out.bytes(), printed);
     }
+    Ok(())
+}
+
+#[test]
+fn limits_of_formulas_are_told(rt: HostRuntime) -> Result<(), Fail> {
+    let alloc = rt.alloc();
+    let words = ["formulas", "m.iface"];
+    let files = texts(WIDE, INSTANTIATED, b"INSTANCE s END_INSTANCE");
+    let (status, out) = outcome_of(alloc, &words, files, Vec::new(alloc), 200)?;
+    assert_eq!(rt; status.code(), 7);
+    assert_eq!(rt;
+        out.bytes(),
+        b"LIMIT assertion instances 64 AT formula 1\n".as_slice()
+    );
     Ok(())
 }
 

@@ -34,6 +34,21 @@ const LEAK: &[u8] = b"write(alice, memo, 7); read(bob, memo);";
 
 const RUN: [&str; 4] = ["run", "files.iface", "small.inst", "s.script"];
 
+const LISTED: &[u8] = b"INTERFACE files
+FORMULA 1 read result-reference
+HYP NOT (u = ?)
+HYP NOT (f = ?)
+HYP NOT (NOT (cls(f) <= clr(u)))
+GOAL cls(f) <= clr(u)
+FORMULA 2 write change
+HYP NOT (u = ?)
+HYP NOT (f = ?)
+HYP NOT (x = ?)
+HYP NOT (NOT (clr(u) <= cls(f)))
+GOAL clr(u) <= cls(f)
+FORMULAS 2
+";
+
 // The files of the interface above, with this module and this script.
 fn texts<'a>(module: &'a [u8], script: &'a [u8]) -> Files<'a> {
     [
@@ -62,6 +77,16 @@ fn answers_are_printed(rt: HostRuntime) -> Result<(), Fail> {
         assert_eq!(rt; status.code(), 0);
         assert_eq!(rt; out.bytes(), printed);
     }
+    Ok(())
+}
+
+#[test]
+fn formulas_are_listed(rt: HostRuntime) -> Result<(), Fail> {
+    let alloc = rt.alloc();
+    let words = ["formulas", "files.iface"];
+    let (status, out) = outcome_of(alloc, &words, texts(GUARDED, b""), Vec::new(alloc), 400)?;
+    assert_eq!(rt; status.code(), 0);
+    assert_eq!(rt; out.bytes(), LISTED);
     Ok(())
 }
 

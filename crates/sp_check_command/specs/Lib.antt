@@ -1,0 +1,5 @@
+pub mod Lines
+pub mod Decided
+pub mod Verdicts
+pub mod Check
+pub mod Secure

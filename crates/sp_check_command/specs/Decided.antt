@@ -1,5 +1,5 @@
 -- The flow formulas of a specification are listed, and then decided one after the other. For the work of `check`.
-use Rattle.std.specs.Prelude.{◌≡◌, ℕ, suc, Bool, List, [], ◌∷◌, Option, Some, None, Result, Ok, Err, map}
+use Rattle.std.specs.Prelude.{◌≡◌, ℕ, ◌+◌, suc, Bool, List, [], ◌∷◌, Option, Some, None, Result, Ok, Err, map}
 use Rattle.sp_text.specs.declared.fault.Quantity.{Quantity}
 use Rattle.sp_text.specs.declared.fault.Quantity.TheVariants as quantity
 use Rattle.sp_core.specs.Parts.{Parts}
@@ -72,7 +72,7 @@ abbrev pub AllDecided : Parts → ℕ → List Formula → Step (List Decision)
 AllDecided p n [] = Gives []
 AllDecided p n (o ∷ os) =
     Then (FormulaDecided p n o) (λ d.
-    Then (AllDecided p (suc n) os) (λ ds.
+    Then (AllDecided p (n + 1) os) (λ ds.
     Gives (d ∷ ds)))
 
 -- how many are open

@@ -1,5 +1,5 @@
 -- The lines of `check`: of each formula whether it is proved, with the first open branch where it isn't; and what follows of all.
-use Rattle.std.specs.Prelude.{ℕ, zero, suc, Bool, List, [], ◌∷◌, ◌++◌, Option, Some, None, codes, length, slice_get}
+use Rattle.std.specs.Prelude.{ℕ, ◌+◌, zero, suc, Bool, List, [], ◌∷◌, ◌++◌, Option, Some, None, codes, length, slice_get}
 use Rattle.std.specs.Fmt.{decimal}
 use Rattle.sp_core.specs.declared.function.Formal.{Formal}
 use Rattle.sp_core.specs.Parts.{Parts}
@@ -50,7 +50,7 @@ decision_lines p n o (decision.Open vs) = heading n o ++ codes " OPEN\n" ++ atom
 abbrev pub all_lines : Parts → ℕ → List Formula → List Decision → List ℕ
 all_lines p n [] ds = []
 all_lines p n (o ∷ os) [] = []
-all_lines p n (o ∷ os) (d ∷ ds) = decision_lines p n o d ++ all_lines p (suc n) os ds
+all_lines p n (o ∷ os) (d ∷ ds) = decision_lines p n o d ++ all_lines p (n + 1) os ds
 
 -- so many of the m formulas are open
 abbrev pub last_line : ℕ → ℕ → List ℕ

@@ -1,0 +1,92 @@
+//! `check`: whether each flow formula of an interface is proved.
+
+ghost use Rattle.std.specs.Prelude.{◌≡◌, Ok, map};
+ghost use Rattle.sp_formulas.specs.Formulas.{formula_as, formulas};
+ghost use Rattle.sp_formulas.specs.Typed.{AreTypedFormulas};
+ghost use Rattle.sp_frame.specs.Endings.{Printing};
+ghost use Rattle.sp_frame.specs.Loads.{Loads};
+ghost use Rattle.sp_frame.specs.Steps.{Does, Gives};
+ghost use Rattle.sp_check_command.specs.Check.{CheckAnswered, CheckDone, CheckWork};
+ghost use Rattle.sp_check_command.specs.Decided.{AllDecided};
+ghost use Rattle.sp_check_command.specs.Lines.{spells};
+ghost use Rattle.sp_check_command.specs.Verdicts.{check_answer};
+
+use crate::deciding::{Decision, decide_all, open_count};
+use crate::listing::listed;
+use crate::printed::{push_accepted, push_decisions, push_interface, push_refused};
+use sp_core::Spec;
+use sp_formula_laws::tell_typed;
+use sp_frame::{LoadStop, Printed, Stop, Verdict, as_loading};
+use sp_outside::Library;
+use sp_sequent::Formula;
+use sp_system::{Elaborated, System, judge_system, load_system};
+use sp_unwinding::accept;
+use std::alloc::Global;
+
+/// The lines of `check`.
+///
+/// # Errors
+/// `Refused` where a step is refused, `ReadFault`, and `Memory`.
+#[tactic(auto, using(sp_frame::proofs::Connective::prints_last, sp_frame::proofs::Connective::prints_unread), unfolding(crate::specs::Check::CheckDone))]
+pub fn check_command<L: Library>(
+    alloc: Global,
+    lib: &mut L,
+    interface: &str,
+) -> Result<Printed, LoadStop>
+    ensures { Loads L.told L.faults lib.old lib.new (λ files. Printing spells (CheckDone interface.now files)) result }
+{
+    let system = load_system(alloc, lib, interface)?;
+    as_loading(check_work(alloc, interface, &system))
+}
+
+// The work over the texts.
+#[tactic(auto, using(sp_frame::proofs::Connective::prints_after, sp_frame::proofs::Connective::prints_refused))]
+fn check_work(alloc: Global, interface: &str, system: &System) -> Result<Printed, Stop>
+    ensures { Does (Printing spells (CheckWork interface.now system.now)) result }
+{
+    let elaborated = judge_system(alloc, interface, system)?;
+    let Elaborated { spec, scopes: _ } = elaborated;
+    answered(alloc, spec)
+}
+
+// The work over the specification.
+fn answered(alloc: Global, spec: Spec) -> Result<Printed, Stop>
+    ensures { Does (Printing spells (CheckAnswered spec)) result }
+{
+    tell_typed(&spec);
+    let formulas = listed(alloc, &spec)?;
+    let decisions = decide_all(alloc, &spec, formulas.items())?;
+    told(alloc, spec, formulas.items(), decisions.items())
+}
+
+// The lines, the last of which tells whether all formulas are proved.
+#[tactic(auto, using(crate::proofs::Printing::told, crate::proofs::Printing::refuses, crate::proofs::Printing::accepts))]
+fn told(
+    alloc: Global,
+    spec: Spec,
+    made: &[Formula],
+    decisions: &[Decision],
+) -> Result<Printed, Stop>
+    requires listed { map formula_as made.now ≡ formulas spec }
+    requires typed { AreTypedFormulas spec (map formula_as made.now) }
+    requires decided { AllDecided spec 1 (map formula_as made.now) (Ok decisions.now) }
+    ensures { Does (Printing spells (Gives (check_answer spec (map formula_as made.now) decisions.now))) result }
+{
+    let mut bytes = Vec::new(alloc);
+    push_interface(alloc, &mut bytes, &spec)?;
+    push_decisions(alloc, &mut bytes, &spec, made, decisions)?;
+    let open = open_count(decisions);
+    if open > 0 {
+        push_refused(alloc, &mut bytes, open, made.len())?;
+        return Ok(Printed {
+            bytes,
+            verdict: Verdict::Refused,
+        });
+    }
+    let accepted = accept(spec, made);
+    push_accepted(alloc, &mut bytes, &accepted, made.len())?;
+    Ok(Printed {
+        bytes,
+        verdict: Verdict::Ok,
+    })
+}

@@ -1,0 +1,25 @@
+//! What holds of the work of `check`, whatever the files.
+
+ghost use Rattle.std.specs.Prelude.{ℕ, List};
+ghost use Rattle.sp_outside.specs.Files.{Files};
+ghost use Rattle.sp_frame.specs.Laws.{IsLawful};
+ghost use Rattle.sp_check_command.specs.Check.{CheckDone};
+ghost use Rattle.sp_check_command.specs.Secure.{AcceptedAreSecure};
+
+use sp_claims::closed_claims_hold;
+use sp_formula_laws::formulas_are_typed;
+use sp_hold::laws::unwinding_law;
+
+/// The work comes to one outcome at most, and its refusals hold of the files. It does nothing: its clause is the law.
+pub fn check_law()
+    ensures { (files : Files) (interface : List ℕ) → IsLawful files (CheckDone interface files) }
+{}
+
+/// Where `check` accepts, the files read as an interface whose specification is secure. It does nothing: its clause is the law.
+pub fn accepted_law()
+    ensures { AcceptedAreSecure }
+{
+    closed_claims_hold();
+    unwinding_law();
+    formulas_are_typed();
+}

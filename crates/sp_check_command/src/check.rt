@@ -60,7 +60,6 @@ fn answered(alloc: Global, spec: Spec) -> Result<Printed, Stop>
 }
 
 // The lines, the last of which tells whether all formulas are proved.
-#[tactic(auto, using(crate::proofs::Printing::told, crate::proofs::Printing::refuses, crate::proofs::Printing::accepts))]
 fn told(
     alloc: Global,
     spec: Spec,

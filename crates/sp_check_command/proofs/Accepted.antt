@@ -7,7 +7,7 @@ use Rattle.sp_text.specs.declared.fault.TextFault.{TextFault}
 use Rattle.sp_text.specs.declared.fault.TextFault.TheVariants as fault
 use Rattle.sp_outside.specs.Files.{Files}
 use Rattle.sp_tree.specs.declared.instance.InstanceTree.{InstanceTree}
-use Rattle.sp_core.specs.Instances.{IsAdmissible, IsInstanceOf, IsSecure, InstanceParts, filling_of, machine_of}
+use Rattle.sp_core.specs.Instances.{IsAdmissible, IsSecure, InstanceParts, filling_of, machine_of}
 use Rattle.sp_core.specs.Parts.{Parts}
 use Rattle.sp_core.specs.WellFormed.{IsWellFormed}
 use Rattle.sp_scopes.specs.declared.scopes.Scopes.{Scopes}
@@ -36,7 +36,6 @@ use Rattle.sp_system.specs.declared.interface.Elaborated.{Elaborated}
 use Rattle.sp_system.specs.declared.system.System.{System}
 use Rattle.sp_check_command.specs.Check.{CheckAnswered, CheckDone, CheckWork}
 use Rattle.sp_check_command.specs.Decided.{AllDecided, FormulaDecided, FormulasListed, IsLimited, IsListing, open_count}
-use Rattle.sp_check_command.specs.Lines.{Lines}
 use Rattle.sp_check_command.specs.Secure.{AcceptedAreSecure, IsSecureInterface}
 use Rattle.sp_check_command.specs.Verdicts.{check_answer, verdict_by}
 use Rattle.sp_check_command.specs.declared.deciding.Decision.{Decision}

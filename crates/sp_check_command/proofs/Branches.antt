@@ -1,9 +1,8 @@
 -- A question has one first open branch at most.
 use Rattle.std.proofs.Common.{◌≡◌, ◌∙◌, ℕ, zero, suc, ◌<◌, Bool, true, false, List, [], ◌∷◌, ap, arith, inl, inr, length, refl, slice_index_or, sym}
 use Rattle.sp_rules.specs.Questions.{Question}
-use Rattle.sp_prover.specs.Deciding.{IsFirstOpen, values_of}
-use Rattle.sp_prover.specs.Order.{Agree, IsBefore, IsNotAfter}
-use Rattle.sp_prover.specs.declared.branch.Branch.{Branch}
+use Rattle.sp_prover.specs.Deciding.{values_of}
+use Rattle.sp_prover.specs.Order.{Agree, IsNotAfter}
 use Rattle.sp_check_command.specs.Decided.{IsFirstBranch}
 
 same_lists : (xs ys : List Bool) → length xs ≡ length ys → ((k : ℕ) → k < length xs → slice_index_or xs k false ≡ slice_index_or ys k false) → xs ≡ ys

@@ -17,11 +17,10 @@ use Rattle.sp_frame.specs.declared.refusal.Refusal.{Refusal}
 use Rattle.sp_frame.specs.declared.refusal.WorkPlace.{WorkPlace}
 use Rattle.sp_frame.specs.declared.refusal.WorkPlace.TheVariants as work_place
 use Rattle.sp_frame.specs.Laws.{IsDue, IsLawful}
-use Rattle.sp_frame.specs.Steps.{Step}
 use Rattle.sp_frame.proofs.Lawful.{gives_lawful, then_lawful}
 use Rattle.sp_system.proofs.Lawful.{judged_system_lawful, read_lawful}
 use Rattle.sp_check_command.specs.Check.{CheckAnswered, CheckDone}
-use Rattle.sp_check_command.specs.Decided.{AllDecided, FormulasListed, IsDecided, IsLimited, IsListing, exceeded}
+use Rattle.sp_check_command.specs.Decided.{AllDecided, IsDecided, IsLimited, IsListing, exceeded}
 use Rattle.sp_check_command.specs.declared.deciding.Decision.{Decision}
 use Rattle.sp_check_command.specs.declared.deciding.Decision.TheVariants as decision
 use Rattle.sp_check_command.proofs.Branches.{one_branch}

@@ -1,7 +1,7 @@
 -- What ACCEPTED means, for whoever reads it.
-use Rattle.std.specs.Prelude.{◌≡◌, ℕ, List, Ok}
+use Rattle.std.specs.Prelude.{ℕ, List, Ok}
 use Rattle.sp_outside.specs.Files.{Files}
-use Rattle.sp_core.specs.Instances.{InstanceParts, IsAdmissible, IsInstanceOf, IsSecure, filling_of}
+use Rattle.sp_core.specs.Instances.{IsAdmissible, IsInstanceOf, IsSecure, filling_of}
 use Rattle.sp_core.specs.Parts.{Parts}
 use Rattle.sp_instance.specs.Instances.{instance_of}
 use Rattle.sp_frame.specs.declared.refusal.Verdict.TheVariants as verdict

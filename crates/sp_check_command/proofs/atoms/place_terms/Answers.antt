@@ -1,4 +1,4 @@
-use Rattle.std.proofs.Common.{◌≡◌, ◌≤◌, arith, length, map, subst, sym}
+use Rattle.std.proofs.Common.{◌≤◌, arith, length, map, subst, sym}
 use Rattle.std.specs.Prelude.{All}
 use Rattle.std.proofs.lemmas.List.{length-map}
 use Rattle.sp_values.specs.declared.value.Ty.TheVariants as ty

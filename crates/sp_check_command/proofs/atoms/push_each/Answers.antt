@@ -1,4 +1,4 @@
-use Rattle.std.proofs.Common.{◌≡◌, ◌∙◌, ◌++◌, ◌≤◌, List, [], ap, append-nil, arith, drop, length, map, sym}
+use Rattle.std.proofs.Common.{◌≡◌, ◌∙◌, ◌++◌, [], ap, append-nil, arith, drop, map, sym}
 use Rattle.sp_core.specs.Tree.{tree}
 use Rattle.sp_rules.specs.Questions.{numbers}
 use Rattle.sp_check_command.specs.Verdicts.{atom_lines}

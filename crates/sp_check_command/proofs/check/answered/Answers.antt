@@ -1,4 +1,4 @@
-use Rattle.std.proofs.Common.{◌∙◌, ◌≤◌, List, length, subst, sym}
+use Rattle.std.proofs.Common.{◌≤◌, List, length, subst, sym}
 use Rattle.sp_text.specs.declared.limits.TheConstants.{MOST_FORMULAS}
 use Rattle.sp_sequent.specs.declared.formula.Formula.{Formula as Made}
 use Rattle.sp_check_command.proofs.Few.{few_listed}

@@ -1,4 +1,4 @@
-use Rattle.std.proofs.Common.{◌≡◌, ◌<◌, arith, length, map, refl}
+use Rattle.std.proofs.Common.{◌≡◌, arith, length, map, refl}
 use Rattle.sp_formulas.specs.Formulas.{formula_as}
 use Rattle.sp_frame.specs.declared.refusal.Verdict.TheVariants as verdict
 use Rattle.sp_check_command.specs.Decided.{open_count}

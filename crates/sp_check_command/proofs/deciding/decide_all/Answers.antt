@@ -1,4 +1,4 @@
-use Rattle.std.proofs.Common.{◌≡◌, ◌∙◌, ◌+◌, ap, arith, drop, length, map, subst, sym}
+use Rattle.std.proofs.Common.{◌∙◌, ◌+◌, ap, arith, drop, length, map, subst, sym}
 use Rattle.std.proofs.lemmas.Result.{err_from_is_err_and}
 use Rattle.sp_formulas.specs.Formulas.{formula_as}
 use Rattle.sp_formulas.specs.Typed.{IsTypedFormula}
@@ -16,10 +16,10 @@ returns-in_err-decision c =
 
 pub loop-k-preserved : goal.loop-k-preserved
 loop-k-preserved c = (
-    ap length c.decided.ensures.pool ∙ c.loop-k.invariant.0,
-    subst (First c.args.spec.now (map formula_as c.args.formulas.now) (c.loop-k.k + 1 + 1) (map formula_as (drop (c.loop-k.k + 1) c.args.formulas.now))) (sym c.in_ok-push.ensures.items)
-    (next_decided c.args.spec.now c.args.formulas.now c.loop-k.k c.loop-k.all.items c.index-formulas-k.result c.in_ok-decision.decision (omega arith) c.index-formulas-k.is c.loop-k.invariant.1 c.in_ok-decision.ensures.does),
-  )
+  ap length c.decided.ensures.pool ∙ c.loop-k.invariant.0,
+  subst (First c.args.spec.now (map formula_as c.args.formulas.now) (c.loop-k.k + 1 + 1) (map formula_as (drop (c.loop-k.k + 1) c.args.formulas.now))) (sym c.in_ok-push.ensures.items)
+      (next_decided c.args.spec.now c.args.formulas.now c.loop-k.k c.loop-k.all.items c.index-formulas-k.result c.in_ok-decision.decision (omega arith) c.index-formulas-k.is c.loop-k.invariant.1 c.in_ok-decision.ensures.does),
+)
 
 pub returns : goal.returns
 returns c = rw c.new-2.ensures (all_decided c.args.spec.now c.args.formulas.now c.loop-k.k c.loop-k.all.items (omega arith) c.loop-k.invariant.1)

@@ -1,4 +1,4 @@
-use Rattle.std.proofs.Common.{◌≡◌, ◌∙◌, ◌++◌, ◌+◌, ◌≤◌, List, [], ap, append-nil, arith, drop, length, map, sym}
+use Rattle.std.proofs.Common.{◌≡◌, ◌∙◌, ◌++◌, ◌+◌, [], ap, append-nil, arith, drop, map, sym}
 use Rattle.sp_formulas.specs.Formulas.{formula_as}
 use Rattle.sp_formulas.specs.Typed.{IsTypedFormula}
 use Rattle.sp_check_command.specs.Verdicts.{all_lines}

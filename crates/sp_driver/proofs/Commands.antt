@@ -3,19 +3,22 @@ use Rattle.std.proofs.Common.{◌≡◌, ◌∙◌, ℕ, List, Option, Some, Non
 use Rattle.sp_outside.specs.Files.{Files}
 use Rattle.sp_frame.specs.Endings.{Ending, ending_of}
 use Rattle.sp_frame.specs.Laws.{IsLawful}
+use Rattle.sp_check_command.specs.Check.{CheckDone}
 use Rattle.sp_formulas_command.specs.Formulas.{FormulasDone}
 use Rattle.sp_run_command.specs.Run.{RunDone}
 use Rattle.sp_compare_command.specs.Compare.{CompareDone}
 use Rattle.sp_driver.specs.Certified.{Certified}
 use Rattle.sp_driver.specs.Laws.{CommandLaw}
 use Rattle.sp_driver.specs.Report.{CommandDone, Ends, EndsAs}
-use Rattle.sp_driver.specs.Words.{Command, command_of, compare, formulas, run}
+use Rattle.sp_driver.specs.Words.{Command, check, command_of, compare, formulas, run}
 
 -- the law of all commands, from that of each
-module _ (files : Files) (of_formulas : (interface : List ℕ) → IsLawful files (FormulasDone interface files))
+module _ (files : Files) (of_check : (interface : List ℕ) → IsLawful files (CheckDone interface files))
+    (of_formulas : (interface : List ℕ) → IsLawful files (FormulasDone interface files))
     (of_run : (interface instance script : List ℕ) → IsLawful files (RunDone interface instance script files))
     (of_compare : (interface instance script level : List ℕ) → IsLawful files (CompareDone interface instance script level files)) where
   pub lawful : (command : Command) → IsLawful files (CommandDone command files)
+  lawful (check interface) = of_check interface
   lawful (formulas interface) = of_formulas interface
   lawful (run interface instance script) = of_run interface instance script
   lawful (compare interface instance script level) = of_compare interface instance script level

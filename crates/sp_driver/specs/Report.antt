@@ -3,14 +3,16 @@ use Rattle.std.specs.Prelude.{◌≡◌, ℕ, List, Option, Some, None}
 use Rattle.sp_outside.specs.Files.{Files}
 use Rattle.sp_frame.specs.Endings.{Answer, Ending, EndsBy, no_command}
 use Rattle.sp_frame.specs.Steps.{Step}
+use Rattle.sp_check_command.specs.Check.{CheckDone}
 use Rattle.sp_formulas_command.specs.Formulas.{FormulasDone}
 use Rattle.sp_run_command.specs.Run.{RunDone}
 use Rattle.sp_compare_command.specs.Compare.{CompareDone}
 use Rattle.sp_driver.specs.Certified.{Certified}
-use Rattle.sp_driver.specs.Words.{Command, command_of, compare, formulas, run}
+use Rattle.sp_driver.specs.Words.{Command, check, command_of, compare, formulas, run}
 
 -- the work of a command
 abbrev pub CommandDone : Command → Files → Step (Answer Certified)
+CommandDone (check interface) = CheckDone interface
 CommandDone (formulas interface) = FormulasDone interface
 CommandDone (run interface instance script) = RunDone interface instance script
 CommandDone (compare interface instance script level) = CompareDone interface instance script level

@@ -1,5 +1,5 @@
 -- What the top call answers and writes, and why, for its contract.
-use Rattle.std.specs.Prelude.{◌≡◌, ◌⊎◌, ℕ, List, Option, None, IsTrue}
+use Rattle.std.specs.Prelude.{◌≡◌, ◌⊎◌, ℕ, List, Option, None, Some, IsTrue}
 use Rattle.sp_text.specs.declared.fault.Limit.{Limit}
 use Rattle.sp_text.specs.declared.fault.Malformed.{Malformed}
 use Rattle.sp_outside.specs.Files.{Files, IsTooLong, first_file}
@@ -13,9 +13,10 @@ use Rattle.sp_frame.specs.declared.status.Status.{Status}
 use Rattle.sp_frame.specs.declared.status.Status.TheVariants as status
 use Rattle.sp_frame.specs.Endings.{Answer, Ending, Prints, Reports, answered, refused, verdict_of}
 use Rattle.sp_frame.specs.Status.{IsFailure, is_reported}
+use Rattle.sp_check_command.specs.Secure.{IsSecureInterface}
 use Rattle.sp_driver.specs.Certified.{Certified, spells}
 use Rattle.sp_driver.specs.Report.{Ends}
-use Rattle.sp_driver.specs.Words.{command_of}
+use Rattle.sp_driver.specs.Words.{check, command_of}
 
 -- the bytes of the report were written, and this is its status
 abbrev pub IsWritten : Option (List ℕ) → Option (List ℕ) → Report → Status → Type 0
@@ -37,6 +38,11 @@ module _ (words : List (List ℕ)) where
   -- each ending of the words has this status and these bytes, unless a read, a write or memory failed
   abbrev pub IsDetermined : Status → Option (List ℕ) → Option (List ℕ) → Files → Type 0
   IsDetermined code before now files = (e : Ending Certified) → Ends words files e → ((bytes : List ℕ) × Reports spells e bytes code × Appends before now bytes) ⊎ IsFailure code
+
+  -- the interface that the words have checked is secure: the files read as it and stand for one specification, of which its sample is an
+  -- admissible instance, and that specification is secure
+  abbrev pub AcceptsSecure : Files → Type 0
+  AcceptsSecure files = (interface : List ℕ) → command_of words ≡ Some (check interface) → IsSecureInterface interface files
 
   -- ---- causes
 

@@ -2,16 +2,17 @@
 use Rattle.std.specs.Prelude.{ℕ, List, Option, Some, None, option_and_then}
 use Rattle.sp_words.specs.Words as forms
 
--- `formulas` with the name of an interface; `run` with the names of an interface, an instance and a script; `compare` with the word
+-- `check` and `formulas` with the name of an interface; `run` with the names of an interface, an instance and a script; `compare` with the word
 -- of a level too
 pub data Command : Type 0 where
+  check : List ℕ → Command
   formulas : List ℕ → Command
   run : List ℕ → List ℕ → List ℕ → Command
   compare : List ℕ → List ℕ → List ℕ → List ℕ → Command
 
 -- the command of a form of words; those of the other forms aren't built yet, so that these words are no command
 abbrev pub built : forms.Command → Option Command
-built (forms.check interface) = None
+built (forms.check interface) = Some (check interface)
 built (forms.formulas interface) = Some (formulas interface)
 built (forms.prove interface) = None
 built (forms.verify interface certificates) = None

@@ -7,6 +7,7 @@ ghost use Rattle.sp_driver.specs.Certified.{Certified};
 ghost use Rattle.sp_driver.specs.Laws.{CommandLaw};
 ghost use Rattle.sp_driver.specs.Report.{Ends};
 
+use sp_check_command::check_law;
 use sp_compare_command::compare_law;
 use sp_formulas_command::formulas_law;
 use sp_run_command::run_law;
@@ -16,6 +17,7 @@ use sp_run_command::run_law;
 pub fn command_law()
     ensures { CommandLaw }
 {
+    check_law();
     formulas_law();
     run_law();
     compare_law();

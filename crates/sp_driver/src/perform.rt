@@ -7,6 +7,7 @@ ghost use Rattle.sp_driver.specs.Meant.{command_meant};
 ghost use Rattle.sp_driver.specs.Report.{CommandDone};
 
 use crate::words::Command;
+use sp_check_command::check_command;
 use sp_compare_command::compare_command;
 use sp_formulas_command::formulas_command;
 use sp_frame::{LoadStop, Printed};
@@ -26,6 +27,7 @@ pub fn perform<L: Library>(
     ensures { Loads L.told L.faults lib.old lib.new (λ files. Printing spells (CommandDone (command_meant command.entry) files)) result }
 {
     match command {
+        Command::Check { interface } => check_command(alloc, lib, interface),
         Command::Formulas { interface } => formulas_command(alloc, lib, interface),
         Command::Run {
             interface,

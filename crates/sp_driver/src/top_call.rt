@@ -5,13 +5,14 @@ ghost use Rattle.sp_outside.specs.Causes.{Rose};
 ghost use Rattle.sp_outside.specs.Written.{Appends, AppendsPrefix};
 ghost use Rattle.sp_frame.specs.Status.{is_reported};
 ghost use Rattle.sp_driver.specs.Report.{Ends, IsLoading};
-ghost use Rattle.sp_driver.specs.Run.{CutShort, HasReport, IsCaused, IsDetermined, IsWritten, Reported};
+ghost use Rattle.sp_driver.specs.Run.{AcceptsSecure, CutShort, HasReport, IsCaused, IsDetermined, IsWritten, Reported};
 ghost use Rattle.sp_words.specs.Words.{texts_of};
 ghost use Rattle.sp_driver.specs.Words.{command_of};
 
 use crate::laws::command_law;
 use crate::perform::perform;
 use crate::words::read_words;
+use sp_check_command::accepted_law;
 use sp_frame::{Failure, Report, Status, report_of, words_text};
 use sp_outside::{Library, Sink};
 use sp_words::WordsFault;
@@ -22,6 +23,9 @@ pub fn run<L: Library, S: Sink>(alloc: Global, words: &[String], lib: &mut L, ou
     // The status and the bytes are those of an ending of the words, and of each.
     ensures reported { IsTrue (is_reported result) → IfSome (L.told lib.old) (Reported (texts_of words.now) result (S.told out.old) (S.told out.new)) }
     ensures determined { IfSome (L.told lib.old) (IsDetermined (texts_of words.now) result (S.told out.old) (S.told out.new)) }
+
+    // What is accepted is secure: of a check that ends with Ok, whose last line says ACCEPTED.
+    ensures accepted { result ≡ Status.Ok → IfSome (L.told lib.old) (AcceptsSecure (texts_of words.now)) }
 
     // Each status comes exactly where its cause is.
     ensures caused { IfSome (L.told lib.old) (IsCaused (texts_of words.now) result) }
@@ -45,6 +49,7 @@ pub fn run<L: Library, S: Sink>(alloc: Global, words: &[String], lib: &mut L, ou
     ensures later { (L.faults lib.old ≤ L.faults lib.new) × (S.faults out.old ≤ S.faults out.new) }
 {
     command_law();
+    accepted_law();
     let ended = report(alloc, words, lib);
     deliver(ended, out)
 }

@@ -13,6 +13,10 @@ use std::alloc::Global;
 /// A command with its words.
 #[derive(Clone, Copy, Debug)]
 pub enum Command<'a> {
+    /// Whether each formula is proved.
+    Check {
+        interface: &'a str,
+    },
     /// The list of formulas.
     Formulas {
         interface: &'a str,
@@ -52,6 +56,7 @@ fn built<'a>(form: Form<'a>) -> Option<Command<'a>>
     ensures { option_map command_meant result ≡ meaning.built (forms.command_meant form.entry) }
 {
     match form {
+        Form::Check { interface } => Some(Command::Check { interface }),
         Form::Formulas { interface } => Some(Command::Formulas { interface }),
         Form::Run {
             interface,

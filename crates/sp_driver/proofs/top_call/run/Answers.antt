@@ -1,4 +1,5 @@
 use Rattle.sp_words.specs.Words.{texts_of}
+use Rattle.sp_driver.proofs.Accepted.{accepts}
 use Rattle.sp_driver.proofs.Causes as causes
 use Rattle.sp_driver.proofs.top_call.run.Goals as goal
 
@@ -15,3 +16,7 @@ returns-clause-caused g c =
 
 pub returns-clause-cut_short : goal.returns-clause-cut_short
 returns-clause-cut_short g c = λ e. causes.cut_short (texts_of c.args.words.now) _ _ _ c.report-ended.result c.report-ended.ensures.reports (c.deliver.ensures.part e)
+
+pub returns-clause-accepted : goal.returns-clause-accepted
+returns-clause-accepted g c = λ ok.
+    accepts c.accepted_law.ensures (texts_of c.args.words.now) _ _ _ _ (causes.reported c.command_law.ensures (texts_of c.args.words.now) _ _ _ _ c.report-ended.result c.report-ended.ensures.reports c.deliver.ensures.whole) ok

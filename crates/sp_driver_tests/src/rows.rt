@@ -49,6 +49,22 @@ GOAL clr(u) <= cls(f)
 FORMULAS 2
 ";
 
+const ACCEPTED: &[u8] = b"INTERFACE files
+1 read result-reference PROVED
+2 write change PROVED
+ACCEPTED 2 formulas
+";
+
+const REFUSED: &[u8] = b"INTERFACE files
+1 read result-reference PROVED
+2 write change OPEN
+  u = ? FALSE
+  f = ? FALSE
+  x = ? FALSE
+  clr(u) <= cls(f) FALSE
+REFUSED 1 of 2 formulas
+";
+
 // The files of the interface above, with this module and this script.
 fn texts<'a>(module: &'a [u8], script: &'a [u8]) -> Files<'a> {
     [
@@ -87,6 +103,19 @@ fn formulas_are_listed(rt: HostRuntime) -> Result<(), Fail> {
     let (status, out) = outcome_of(alloc, &words, texts(GUARDED, b""), Vec::new(alloc), 400)?;
     assert_eq!(rt; status.code(), 0);
     assert_eq!(rt; out.bytes(), LISTED);
+    Ok(())
+}
+
+#[test]
+fn formulas_are_decided(rt: HostRuntime) -> Result<(), Fail> {
+    let alloc = rt.alloc();
+    let rows: [(&[u8], u8, &[u8]); 2] = [(GUARDED, 0, ACCEPTED), (LEAKY, 1, REFUSED)];
+    for (module, code, printed) in rows {
+        let words = ["check", "files.iface"];
+        let (status, out) = outcome_of(alloc, &words, texts(module, b""), Vec::new(alloc), 400)?;
+        assert_eq!(rt; status.code(), code);
+        assert_eq!(rt; out.bytes(), printed);
+    }
     Ok(())
 }
 

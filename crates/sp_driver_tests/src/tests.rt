@@ -1,4 +1,4 @@
-use crate::given::outcome_of;
+use crate::given::{Files, outcome_of};
 use sp_driver::Status;
 use sp_outside::MemorySink;
 use sp_text::{Memory, push_text};
@@ -197,17 +197,21 @@ fn a_text_has_at_most_200000_tokens(rt: HostRuntime) -> Result<(), Fail> {
     Ok(())
 }
 
+// The files of a system with this module.
+fn big_texts(module: &[u8]) -> Files<'_> {
+    [
+        ("m.iface", BIG_INTERFACE),
+        ("big.special", module),
+        ("s.inst", INSTANCE),
+        ("s.script", b""),
+    ]
+}
+
 // The status of a run whose module is followed by so many blanks, and what it wrote.
 fn big_outcome(alloc: Global, blanks: u32) -> Result<(Status, MemorySink), Memory> {
     let mut text = BIG_MODULE.to_vec(alloc)?;
     repeat(alloc, &mut text, b" ", blanks)?;
-    let texts = [
-        ("m.iface", BIG_INTERFACE),
-        ("big.special", text.as_slice()),
-        ("s.inst", INSTANCE),
-        ("s.script", b"".as_slice()),
-    ];
-    outcome_of(alloc, &SWAP, texts, Vec::new(alloc), 100)
+    outcome_of(alloc, &SWAP, big_texts(&text), Vec::new(alloc), 100)
 }
 
 #[test]

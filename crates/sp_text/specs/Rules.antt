@@ -40,7 +40,6 @@ rule_name rule.OpenComment = codes "OpenComment"
 rule_name rule.NumberTooLarge = codes "NumberTooLarge"
 rule_name rule.Unexpected = codes "Unexpected"
 rule_name rule.BadLine = codes "BadLine"
-rule_name rule.Unbuilt = codes "Unbuilt"
 
 -- The number of a rule: of two rules broken at one place the lesser one counts first. Those of the readers of texts, from
 -- 31 on, never stand beside another one.
@@ -80,4 +79,3 @@ rule_number rule.OpenComment = 32
 rule_number rule.NumberTooLarge = 33
 rule_number rule.Unexpected = 34
 rule_number rule.BadLine = 35
-rule_number rule.Unbuilt = 36

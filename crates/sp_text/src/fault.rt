@@ -52,8 +52,6 @@ pub enum Rule {
     NumberTooLarge,
     Unexpected,
     BadLine,
-    /// The text has a form, or breaks a rule, whose reader isn't built yet.
-    Unbuilt,
 }
 
 /// A rule broken at a place of a text.

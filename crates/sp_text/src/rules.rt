@@ -46,7 +46,6 @@ impl Rule {
             Rule::NumberTooLarge => "NumberTooLarge",
             Rule::Unexpected => "Unexpected",
             Rule::BadLine => "BadLine",
-            Rule::Unbuilt => "Unbuilt",
         }
     }
 
@@ -90,7 +89,6 @@ impl Rule {
             Rule::NumberTooLarge => 33,
             Rule::Unexpected => 34,
             Rule::BadLine => 35,
-            Rule::Unbuilt => 36,
         }
     }
 }

@@ -18,7 +18,8 @@ use Rattle.sp_core.specs.Parts.{Parts, signature}
 use Rattle.sp_core.specs.Tree.{tree}
 use Rattle.sp_core.proofs.Bindings.{length_values}
 use Rattle.sp_eval.specs.Conditions.{HasNoNew, IsTypedIn}
-use Rattle.sp_animator.specs.Views.{IsMapped, IsMappingTo, IsRow, translated}
+use Rattle.sp_core.specs.Mappings.{IsMappingTo, IsRow}
+use Rattle.sp_animator.specs.Views.{IsMapped, translated}
 
 at_index : {X : Type 0} (P : X → Type 0) (xs : List X) (k : ℕ) (v : X) → All P xs → slice_get xs k ≡ Some v → P v
 at_index P [] k v a e = absurd (none-some v e)

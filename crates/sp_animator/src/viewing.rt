@@ -5,7 +5,8 @@ ghost use Rattle.sp_core.specs.Instances.{filling_of, machine_of};
 ghost use Rattle.sp_core.specs.States.{entry_of};
 ghost use Rattle.sp_eval.specs.Conditions.{IsGiven};
 ghost use Rattle.sp_animator.specs.Views as views;
-ghost use Rattle.sp_animator.specs.Views.{IsMapped, IsMappingTo, IsView};
+ghost use Rattle.sp_core.specs.Mappings.{IsMappingTo};
+ghost use Rattle.sp_animator.specs.Views.{IsMapped, IsView};
 
 use sp_core::{Instance, Mapping, Spec, State};
 use sp_eval::{Env, eval};

@@ -10,5 +10,6 @@ pub mod Measures
 pub mod Reading
 pub mod Parts
 pub mod WellFormed
+pub mod Mappings
 pub mod Instances
 pub mod Laws

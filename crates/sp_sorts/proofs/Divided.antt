@@ -1,5 +1,5 @@
 -- Bytes are divided into lines in one way, so they spell one certificate file at most, or have one first fault.
-use Rattle.std.proofs.Common.{◌≡◌, ◌∙◌, ◌⊎◌, ℕ, zero, suc, ◌+◌, ◌&&◌, not, eqb, Bool, true, false, List, [], ◌∷◌, ◌++◌, append_assoc, append-nil, length, map, Result, Ok, Err, ap, inl, inr, refl, sym, subst}
+use Rattle.std.proofs.Common.{◌≡◌, ◌∙◌, ◌⊎◌, ℕ, zero, suc, ◌+◌, ◌&&◌, not, eqb, Bool, true, false, List, [], ◌∷◌, ◌++◌, append_assoc, append-nil, length, map, Ok, Err, ap, inl, inr, refl, sym, subst}
 use Rattle.sp_text.specs.declared.fault.Limit.{Limit}
 use Rattle.sp_text.specs.declared.fault.Malformed.{Malformed}
 use Rattle.sp_text.specs.declared.fault.Quantity.{Quantity}

@@ -6,7 +6,7 @@ use Rattle.sp_text.specs.declared.fault.TextFault.TheVariants as fault
 use Rattle.sp_text.specs.declared.token.Token.{Token}
 use Rattle.sp_lexer.proofs.Unique.{no_fault_with_tokens, same_first_fault, same_tokens}
 use Rattle.sp_grammar.specs.Lang.{Lang}
-use Rattle.sp_grammar.specs.Texts.{AnswersCounted, AnswersText, IsRead, RefusesCounted}
+use Rattle.sp_grammar.specs.Texts.{AnswersCounted, IsRead, RefusesCounted}
 use Rattle.sp_grammar.specs.Within.{Limits}
 use Rattle.sp_grammar.proofs.OneAnswer.{answered_once, refused_once, unread}
 use Rattle.sp_forms.proofs.Whole.{one_tree, one_tree_in}

@@ -1,5 +1,5 @@
 -- The names in a text that was read are UTF-8, so that they can be names of files.
-use Rattle.std.proofs.Common.{◌≡◌, ◌∙◌, ℕ, zero, suc, ◌+◌, ◌-◌, ◌<◌, List, [], ◌∷◌, Option, None, Some, Result, Ok, Err, IsTrue, ap, arith, drop, filter_map, get_or, get_or-drop, get_or-take, length, length-take, slice_get, slice_range, sym, subst}
+use Rattle.std.proofs.Common.{◌≡◌, ◌∙◌, ℕ, zero, suc, ◌+◌, ◌-◌, ◌<◌, List, [], ◌∷◌, Some, Result, Ok, Err, IsTrue, ap, arith, drop, filter_map, get_or, get_or-drop, get_or-take, length, length-take, slice_get, slice_range, sym, subst}
 use Rattle.std.specs.List.{All, cons_option}
 use Rattle.std.specs.Str.{IsAscii, IsUtf8}
 use Rattle.std.proofs.lemmas.Bool.Decides.{nat_tests}

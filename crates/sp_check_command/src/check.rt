@@ -1,6 +1,6 @@
 //! `check`: whether each flow formula of an interface is proved.
 
-ghost use Rattle.std.specs.Prelude.{◌≡◌, All, map, option_map};
+ghost use Rattle.std.specs.Prelude.{◌≡◌, All, map, option_copied};
 ghost use Rattle.sp_formulas.specs.Formulas.{formula_as, formulas};
 ghost use Rattle.sp_formulas.specs.Typed.{AreTypedFormulas};
 ghost use Rattle.sp_frame.specs.Endings.{Printing};
@@ -55,7 +55,7 @@ fn check_work(alloc: Global, interface: &str, system: &System) -> Result<Printed
 /// # Errors
 /// `Refused` where a step is refused, and `Memory`.
 pub fn check_answered(alloc: Global, spec: Spec, owner: Option<&Name>) -> Result<Printed, Stop>
-    ensures { Does (Printing spells (CheckAnswered (option_map (λ n. n.now) owner.entry) spec)) result }
+    ensures { Does (Printing spells (CheckAnswered (option_copied owner.entry) spec)) result }
 {
     tell_typed(&spec);
     let formulas = listed(alloc, &spec, owner)?;

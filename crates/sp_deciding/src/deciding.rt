@@ -1,6 +1,6 @@
 //! Whether formulas are proved.
 
-ghost use Rattle.std.specs.Prelude.{◌≡◌, ◌<◌, ◌≤◌, length, map, option_map};
+ghost use Rattle.std.specs.Prelude.{◌≡◌, ◌<◌, ◌≤◌, length, map, option_copied};
 ghost use Rattle.sp_text.specs.declared.limits.TheConstants.{MOST_FORMULAS};
 ghost use Rattle.sp_formulas.specs.Formulas.{formula_as};
 ghost use Rattle.sp_formulas.specs.Typed.{AreTypedFormulas, IsTypedFormula};
@@ -28,6 +28,7 @@ pub enum Decision {
 }
 
 // Decides the formula of this number. A certificate is given up at once.
+#[tactic(auto, using(crate::proofs::Refusing::stops))]
 fn decided(
     alloc: Global,
     spec: &Spec,
@@ -38,7 +39,7 @@ fn decided(
 ) -> Result<Decision, Stop>
     requires two { length pool.old ≡ 2 }
     requires typed { IsTypedFormula spec.now (formula_as formula.now) }
-    ensures does { Does (FormulaDecided (option_map (λ n. n.now) owner.entry) spec.now number (formula_as formula.now)) result }
+    ensures does { Does (FormulaDecided (option_copied owner.entry) spec.now number (formula_as formula.now)) result }
     ensures pool { pool.new ≡ pool.old }
 {
     match decide(alloc, spec, pool, formula) {
@@ -70,7 +71,7 @@ pub fn decide_all(
 ) -> Result<Sequence<Decision>, Stop>
     requires typed { AreTypedFormulas spec.now (map formula_as formulas.now) }
     requires few { length formulas.now ≤ MOST_FORMULAS }
-    ensures { Does (AllDecided (option_map (λ n. n.now) owner.entry) spec.now 1 (map formula_as formulas.now)) result }
+    ensures { Does (AllDecided (option_copied owner.entry) spec.now 1 (map formula_as formulas.now)) result }
 {
     let mut pool = Pool::new(alloc)?;
     let mut all = Vec::new(alloc);

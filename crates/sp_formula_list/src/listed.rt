@@ -1,6 +1,6 @@
 //! The list of formulas, or the limit that is exceeded along it.
 
-ghost use Rattle.std.specs.Prelude.{◌≡◌, ◌≤◌, List, Err, IfOk, length, option_map};
+ghost use Rattle.std.specs.Prelude.{◌≡◌, ◌≤◌, List, Err, IfOk, length, option_copied};
 ghost use Rattle.sp_text.specs.declared.limits.TheConstants.{MOST_FORMULAS};
 ghost use Rattle.sp_formulas.specs.Formulas.{Formula};
 ghost use Rattle.sp_frame.specs.Steps.{Does, StopsFor};
@@ -18,7 +18,7 @@ use std::alloc::Global;
 
 // The owner's name once more.
 fn copied(alloc: Global, owner: Option<&Name>) -> Result<Option<Name>, Memory>
-    ensures { IfOk result (λ copy. copy ≡ option_map (λ n. n.now) owner.entry) }
+    ensures { IfOk result (λ copy. copy ≡ option_copied owner.entry) }
 {
     match owner {
         Some(name) => Ok(Some(Name::new(alloc, name.bytes())?)),
@@ -34,7 +34,7 @@ pub fn exceeded(
     place: WorkPlace,
     found: Option<u32>,
 ) -> Stop
-    ensures { StopsFor (definitions.exceeded (option_map (λ n. n.now) owner.entry) quantity place found) result }
+    ensures { StopsFor (definitions.exceeded (option_copied owner.entry) quantity place found) result }
 {
     match copied(alloc, owner) {
         Ok(owner) => Stop::Refused(Refusal::Work(WorkLimit {
@@ -48,8 +48,9 @@ pub fn exceeded(
 }
 
 /// Why there is no list of formulas.
+#[tactic(auto, using(crate::proofs::Stops::stops))]
 pub fn refused(alloc: Global, fault: FormulaFault, owner: Option<&Name>) -> Stop
-    ensures { Does (IsLimited {T = List Formula} (option_map (λ n. n.now) owner.entry) fault) (Err result) }
+    ensures { Does (IsLimited {T = List Formula} (option_copied owner.entry) fault) (Err result) }
 {
     match fault {
         FormulaFault::TooManyFormulas => {
@@ -84,8 +85,9 @@ pub fn refused(alloc: Global, fault: FormulaFault, owner: Option<&Name>) -> Stop
 ///
 /// # Errors
 /// `Refused` with the first limit that is exceeded along their list, and `Memory`.
+#[tactic(auto, using(crate::proofs::Few::few_listed))]
 pub fn listed(alloc: Global, spec: &Spec, owner: Option<&Name>) -> Result<Sequence<Formula>, Stop>
-    ensures does { Does (FormulasListed (option_map (λ n. n.now) owner.entry) spec.now) (as_formulas result) }
+    ensures does { Does (FormulasListed (option_copied owner.entry) spec.now) (as_formulas result) }
     ensures listed { IfOk result (IsListed spec.now) }
     ensures few { IfOk result (λ all. length all ≤ MOST_FORMULAS) }
 {

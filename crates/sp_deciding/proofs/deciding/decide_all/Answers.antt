@@ -1,4 +1,4 @@
-use Rattle.std.proofs.Common.{◌∙◌, ◌+◌, ap, arith, drop, length, map, subst, sym}
+use Rattle.std.proofs.Common.{◌∙◌, ◌+◌, ap, arith, drop, length, map, option_copied, subst, sym}
 use Rattle.std.proofs.lemmas.Result.{err_from_is_err_and}
 use Rattle.sp_formulas.specs.Formulas.{formula_as}
 use Rattle.sp_formulas.specs.Typed.{IsTypedFormula}
@@ -12,14 +12,14 @@ decided-requires-clause-typed c = typed_at (IsTypedFormula c.args.spec.now) c.ar
 pub returns-in_err-decision : goal.returns-in_err-decision
 returns-in_err-decision c =
     let p = err_from_is_err_and c.from_residual-in_err-decision.result c.from_residual-in_err-decision.ensures.1 in
-    rw (p.1, p.2) (next_stops c.args.spec.now c.args.formulas.now c.loop-k.k c.loop-k.all.items c.index-formulas-k.result _ (omega arith) c.index-formulas-k.is c.loop-k.invariant.1 c.in_err-decision.ensures.does)
+    rw (p.1, p.2) (next_stops (option_copied c.args.owner) c.args.spec.now c.args.formulas.now c.loop-k.k c.loop-k.all.items c.index-formulas-k.result _ (omega arith) c.index-formulas-k.is c.loop-k.invariant.1 c.in_err-decision.ensures.does)
 
 pub loop-k-preserved : goal.loop-k-preserved
 loop-k-preserved c = (
   ap length c.decided.ensures.pool ∙ c.loop-k.invariant.0,
-  subst (First c.args.spec.now (map formula_as c.args.formulas.now) (c.loop-k.k + 1 + 1) (map formula_as (drop (c.loop-k.k + 1) c.args.formulas.now))) (sym c.in_ok-push.ensures.items)
-      (next_decided c.args.spec.now c.args.formulas.now c.loop-k.k c.loop-k.all.items c.index-formulas-k.result c.in_ok-decision.decision (omega arith) c.index-formulas-k.is c.loop-k.invariant.1 c.in_ok-decision.ensures.does),
+  subst (First (option_copied c.args.owner) c.args.spec.now (map formula_as c.args.formulas.now) (c.loop-k.k + 1 + 1) (map formula_as (drop (c.loop-k.k + 1) c.args.formulas.now))) (sym c.in_ok-push.ensures.items)
+      (next_decided (option_copied c.args.owner) c.args.spec.now c.args.formulas.now c.loop-k.k c.loop-k.all.items c.index-formulas-k.result c.in_ok-decision.decision (omega arith) c.index-formulas-k.is c.loop-k.invariant.1 c.in_ok-decision.ensures.does),
 )
 
 pub returns : goal.returns
-returns c = rw c.new-2.ensures (all_decided c.args.spec.now c.args.formulas.now c.loop-k.k c.loop-k.all.items (omega arith) c.loop-k.invariant.1)
+returns c = rw c.new-2.ensures (all_decided (option_copied c.args.owner) c.args.spec.now c.args.formulas.now c.loop-k.k c.loop-k.all.items (omega arith) c.loop-k.invariant.1)

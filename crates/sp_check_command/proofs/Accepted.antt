@@ -38,7 +38,7 @@ use Rattle.sp_deciding.specs.Verdicts.{verdict_by}
 use Rattle.sp_deciding.specs.declared.deciding.Decision.{Decision}
 use Rattle.sp_deciding.proofs.Closed.{all_closed}
 use Rattle.sp_check_command.specs.Check.{CheckAnswered, CheckDone, CheckWork, check_answer}
-use Rattle.sp_check_command.specs.Secure.{AcceptedAreSecure, AnsweredAreProved, IsProved, IsSecureInterface}
+use Rattle.sp_check_command.specs.Secure.{AcceptedAreSecure, AnsweredAreProved, ClosedAreSecure, IsProved, IsSecureInterface}
 
 module _ (p : Parts) where
   none_open : (n : ℕ) → verdict_by n ≡ verdict.Ok → n ≡ 0
@@ -146,21 +146,27 @@ module _ (closed_hold : ClosedClaimsHold) (unwinding : UnwindingLaw) (typed : Fo
   pub answered_proved : AnsweredAreProved
   answered_proved owner p bytes wf h = by_formulas p closed_hold wf unwinding typed owner bytes h.0 h.1 h.2
 
+  -- an interface whose flow formulas have no open branch
+  pub closed_secure : ClosedAreSecure
+  closed_secure files interface x e read j closed =
+      let judged = judged_by interface x e j.0 j.1 j.2 in
+      record {
+        system = x;
+        spec = e.spec;
+        read = read;
+        meant = judged.meant;
+        sample = made e.spec judged.meant.well_formed x.sample judged.unbroken;
+        admissible = judged.admissible;
+        secure = (proved e.spec closed_hold judged.meant.well_formed unwinding typed closed).secure;
+      }
+
   module _ (files : Files) (interface bytes : List ℕ) where
     by_spec : (x : System) → SystemRead interface files (Ok x) → (first : Result Elaborated Refusal) → SystemJudged interface x first
         → Onward (λ e. CheckAnswered None e.spec) first (Ok (printed bytes verdict.Ok)) → IsSecureInterface interface files
     by_spec x read (Err r) j h = absurd cc
     by_spec x read (Ok e) j h =
         let judged = judged_by interface x e j.0 j.1 j.2 in
-        record {
-          system = x;
-          spec = e.spec;
-          read = read;
-          meant = judged.meant;
-          sample = made e.spec judged.meant.well_formed x.sample judged.unbroken;
-          admissible = judged.admissible;
-          secure = (by_formulas e.spec closed_hold judged.meant.well_formed unwinding typed None bytes h.0 h.1 h.2).secure;
-        }
+        closed_secure files interface x e read j (by_formulas e.spec closed_hold judged.meant.well_formed unwinding typed None bytes h.0 h.1 h.2).closed
 
     by_system : (first : Result System Refusal) → SystemRead interface files first → Onward (CheckWork interface) first (Ok (printed bytes verdict.Ok)) → IsSecureInterface interface files
     by_system (Err r) read h = absurd cc

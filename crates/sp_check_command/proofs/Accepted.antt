@@ -82,7 +82,7 @@ module _ (p : Parts) where
 -- ---- the texts
 
 -- the trees stand for one specification, and the sample is an admissible instance
-record IsJudged (x : System) (p : Parts) : Type 0 where
+pub record IsJudged (x : System) (p : Parts) : Type 0 where
   pub meant : IsOnlySpec x.interface x.modules p
   pub unbroken : instance_broken p x.sample ≡ []
   pub admissible : IsAdmissible p (filling_of (instance_of p x.sample))
@@ -93,7 +93,7 @@ module _ (file : List ℕ) (x : System) where
   never_faulty name (fault.Limit l) e h = absurd cc
   never_faulty name fault.Memory e h = h
 
-  meant_by : (e : Elaborated) (answer : Result (Parts × Scopes) SpecFault) → Elaborates x.interface x.modules answer → IsFiled file x.interface answer (Ok e) → IsOnlySpec x.interface x.modules e.spec
+  pub meant_by : (e : Elaborated) (answer : Result (Parts × Scopes) SpecFault) → Elaborates x.interface x.modules answer → IsFiled file x.interface answer (Ok e) → IsOnlySpec x.interface x.modules e.spec
   meant_by e (Ok r) h f =
       let same : e ≡ record { spec = r.0; scopes = r.1 } = cc in
       subst (IsOnlySpec x.interface x.modules) (sym (ap (λ (y : Elaborated). y.spec) same)) h.judges.1.spec
@@ -126,7 +126,7 @@ module _ (interface : List ℕ) (x : System) where
   sample_by p (Err r) out e = absurd cc
   sample_by p (Ok u) out e = instance_by p (sample_file x) x.sample out e.0 e.1 e.2
 
-  judged_by : (e : Elaborated) (first : Result Elaborated Refusal) → InterfaceJudged interface x.interface x.modules first
+  pub judged_by : (e : Elaborated) (first : Result Elaborated Refusal) → InterfaceJudged interface x.interface x.modules first
       → Onward (λ d. λ last. (second : Result InstanceParts Refusal) × SampleJudged d.spec x second × Onward (λ i. λ end. end ≡ Ok d) second last) first (Ok e) → IsJudged x e.spec
   judged_by e (Err r) j h = absurd cc
   judged_by e (Ok d) j h = by h.0 h.1 h.2

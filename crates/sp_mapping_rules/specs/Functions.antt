@@ -22,6 +22,7 @@ use Rattle.sp_naming.specs.Names.{repeated_names}
 use Rattle.sp_judge.specs.declared.scope.Site.TheVariants as site
 use Rattle.sp_judge.specs.Broken.{limit_rules, whole_broken}
 use Rattle.sp_judge.specs.Visible.{Visible}
+use Rattle.sp_definitions.specs.Definitions.{kept}
 use Rattle.sp_elaborate.specs.Expressions.{expression_of}
 use Rattle.sp_functions.specs.Assertions.{formal_of}
 use Rattle.sp_functions.specs.Judged.{made}
@@ -92,9 +93,10 @@ abbrev pub formals_given : Option Function → List Formal
 formals_given None = []
 formals_given (Some f) = f.formals
 
+-- a level that exceeds a limit, and so is refused where it is judged, is made `?`
 abbrev pub level_given : List ℕ → List Expr → Option Function → Expr
 level_given ts ps None = expr.Const value.Unknown
-level_given ts ps (Some f) = expression_of (row_level ts ps f)
+level_given ts ps (Some f) = expression_of (kept (row_level ts ps f))
 
 -- the row that a text stands for
 abbrev pub row_of : Parts → Visible → List ℕ → List Expr → Equation → MapRow

@@ -15,15 +15,16 @@ use Rattle.sp_mapping_rules.specs.Lower.{lower_view}
 use Rattle.sp_mapping_rules.specs.Parameters.{param_cores, params_broken, params_missing}
 use Rattle.sp_mapping_rules.specs.Types.{type_numbers, types_broken, types_missing}
 
--- The lattices, the rows of types, and which types, parameters and primitive V-functions lack a row; lattices and what lacks are told
--- at the mapping's name.
-abbrev pub front_broken : Parts → Parts → Visible → MappingTree → List Violation
-front_broken u p s t =
-    lattice_broken t.name.span u p
-    ++ (types_broken u p s t.types
-    ++ (types_missing t.name.span t.types u.types
+-- which types, parameters and primitive V-functions lack a row, told at the mapping's name
+abbrev pub all_missing : Parts → MappingTree → List Violation
+all_missing u t =
+    types_missing t.name.span t.types u.types
     ++ (params_missing t.name.span t.parameters u.params
-    ++ functions_missing t.name.span t.functions u.functions)))
+    ++ functions_missing t.name.span t.functions u.functions)
+
+-- The lattices, the rows of types, and what lacks a row. That two lattices differ is told at the mapping's name too.
+abbrev pub front_broken : Parts → Parts → Visible → MappingTree → List Violation
+front_broken u p s t = lattice_broken t.name.span u p ++ (types_broken u p s t.types ++ all_missing u t)
 
 -- the lower types of the upper ones, and the expressions of the upper parameters
 abbrev pub types_in : Parts → Visible → MappingTree → List ℕ
@@ -48,10 +49,10 @@ mapping_broken upper lower names t = seen_broken upper lower (lower_view lower n
 abbrev pub rows_of : Parts → Visible → MappingTree → List MapRow
 rows_of u s t = map (row_of u s (types_in u s t) (cores_in u s t)) t.functions
 
--- the mapping that it stands for: types in the order of the upper ones, rows in the order of the text
+-- types in the order of the upper ones, rows in the order of the text
+abbrev pub seen_mapping : Parts → Visible → MappingTree → Mapping
+seen_mapping u s t = record { name = t.name.name; types = types_in u s t; functions = rows_of u s t }
+
+-- the mapping that it stands for
 abbrev pub mapping_of : Parts → Parts → Scopes → MappingTree → Mapping
-mapping_of upper lower names t = record {
-  name = t.name.name;
-  types = types_in upper (lower_view lower names) t;
-  functions = rows_of upper (lower_view lower names) t;
-}
+mapping_of upper lower names t = seen_mapping upper (lower_view lower names) t

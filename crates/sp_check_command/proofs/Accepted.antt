@@ -1,5 +1,5 @@
 -- What ACCEPTED means, from the chain of the work: no formula is open, so each holds, and so the specification is secure.
-use Rattle.std.proofs.Common.{◌≡◌, ◌∙◌, ℕ, zero, suc, ◌+◌, List, [], ◌∷◌, Option, None, Some, Result, Ok, Err, ap, inl, inr, map, refl, sym, subst}
+use Rattle.std.proofs.Common.{◌≡◌, ◌∙◌, ℕ, zero, suc, List, [], ◌∷◌, Option, None, Result, Ok, Err, ap, inl, inr, refl, sym, subst}
 use Rattle.std.specs.List.{All}
 use Rattle.std.proofs.lemmas.List.Elements.{All-cons, All-head, All-nil, All-tail, All-weaker}
 use Rattle.sp_text.specs.declared.fault.SpecFault.{SpecFault}
@@ -11,15 +11,11 @@ use Rattle.sp_core.specs.Instances.{IsAdmissible, IsSecure, InstanceParts, filli
 use Rattle.sp_core.specs.Parts.{Parts}
 use Rattle.sp_core.specs.WellFormed.{IsWellFormed}
 use Rattle.sp_scopes.specs.declared.scopes.Scopes.{Scopes}
-use Rattle.sp_sequent.specs.declared.formula.Formula.{Formula as Made}
-use Rattle.sp_sequent.specs.Claims.{claim_of, question_of}
-use Rattle.sp_claims.specs.Laws.{ClosedClaimsHold, HasNoOpenBranch}
+use Rattle.sp_claims.specs.Laws.{ClosedClaimsHold}
 use Rattle.sp_claims.specs.Models.{ClaimHolds, HoldsIn}
-use Rattle.sp_formulas.specs.Formulas.{Formula, formula_as, formulas}
+use Rattle.sp_formulas.specs.Formulas.{Formula, formulas}
 use Rattle.sp_formulas.specs.Limits.{first_fault}
 use Rattle.sp_formulas.specs.Typed.{AreTypedFormulas, IsTypedFormula}
-use Rattle.sp_formulas.specs.declared.fault.FormulaFault.{FormulaFault}
-use Rattle.sp_formulas.specs.declared.fault.FormulaFault.TheVariants as limit
 use Rattle.sp_formula_laws.specs.Laws.{FormulasAreTyped}
 use Rattle.sp_hold.specs.Holding.{claim}
 use Rattle.sp_hold.specs.Laws.{UnwindingLaw}
@@ -34,83 +30,54 @@ use Rattle.sp_system.specs.Interfaces.{Elaborates, InterfaceJudged, IsFaulty, Is
 use Rattle.sp_system.specs.System.{SampleJudged, SystemJudged, SystemRead, sample_file}
 use Rattle.sp_system.specs.declared.interface.Elaborated.{Elaborated}
 use Rattle.sp_system.specs.declared.system.System.{System}
-use Rattle.sp_check_command.specs.Check.{CheckAnswered, CheckDone, CheckWork}
-use Rattle.sp_check_command.specs.Decided.{AllDecided, FormulaDecided, FormulasListed, IsLimited, IsListing, open_count}
-use Rattle.sp_check_command.specs.Secure.{AcceptedAreSecure, IsSecureInterface}
-use Rattle.sp_check_command.specs.Verdicts.{check_answer, verdict_by}
-use Rattle.sp_check_command.specs.declared.deciding.Decision.{Decision}
-use Rattle.sp_check_command.specs.declared.deciding.Decision.TheVariants as decision
-
--- ---- what was decided
+use Rattle.sp_formula_list.specs.Listed.{FormulasListed}
+use Rattle.sp_formula_list.proofs.Given.{listing_is}
+use Rattle.sp_deciding.specs.Decided.{AllDecided, open_count}
+use Rattle.sp_deciding.specs.Laws.{IsClosed}
+use Rattle.sp_deciding.specs.Verdicts.{verdict_by}
+use Rattle.sp_deciding.specs.declared.deciding.Decision.{Decision}
+use Rattle.sp_deciding.proofs.Closed.{all_closed}
+use Rattle.sp_check_command.specs.Check.{CheckAnswered, CheckDone, CheckWork, check_answer}
+use Rattle.sp_check_command.specs.Secure.{AcceptedAreSecure, AnsweredAreProved, IsProved, IsSecureInterface}
 
 module _ (p : Parts) where
-  abbrev pub IsClosed : Formula → Type 0
-  IsClosed o = HasNoOpenBranch (question_of p (claim o))
-
-  closed_one : (n : ℕ) (o : Formula) (d : Decision) (ds : List Decision) → FormulaDecided p n o (Ok d) → open_count (d ∷ ds) ≡ 0 → IsClosed o × (open_count ds ≡ 0)
-  closed_one n o decision.Proved ds h e = (h.0, e)
-  closed_one n o (decision.Open vs) ds h e = absurd cc
-
-  -- where none is open, no formula has an open branch
-  pub all_closed : (n : ℕ) (os : List Formula) (ds : List Decision) → AllDecided p n os (Ok ds) → open_count ds ≡ 0 → All IsClosed os
-  all_closed n [] ds h e = All-nil IsClosed
-  all_closed n (o ∷ os) ds (Err r, first, rest) e = absurd cc
-  all_closed n (o ∷ os) ds (Ok d, first, (Err r, second, rest)) e = absurd cc
-  all_closed n (o ∷ os) ds (Ok d, first, (Ok more, second, rest)) e =
-      let same : ds ≡ d ∷ more = cc in
-      let one = closed_one n o d more first (sym (ap open_count same) ∙ e) in
-      All-cons IsClosed o os one.0 (all_closed (n + 1) os more second one.1)
-
-  -- the same of what is listed
-  pub made_closed : (fs : List Made) → All IsClosed (map formula_as fs) → All (λ f. HasNoOpenBranch (question_of p (claim_of f))) fs
-  made_closed [] h = All-nil (λ f. HasNoOpenBranch (question_of p (claim_of f)))
-  made_closed (f ∷ fs) h =
-      All-cons (λ f. HasNoOpenBranch (question_of p (claim_of f))) f fs (All-head IsClosed (formula_as f) (map formula_as fs) h) (made_closed fs (All-tail IsClosed (formula_as f) (map formula_as fs) h))
-
   none_open : (n : ℕ) → verdict_by n ≡ verdict.Ok → n ≡ 0
   none_open zero e = refl
   none_open (suc n) e = absurd cc
 
   module _ (closed_hold : ClosedClaimsHold) (wf : IsWellFormed p) where
-    all_hold : (os : List Formula) → AreTypedFormulas p os → All IsClosed os → All (λ o. ClaimHolds p (claim o)) os
+    all_hold : (os : List Formula) → AreTypedFormulas p os → All (IsClosed p) os → All (λ o. ClaimHolds p (claim o)) os
     all_hold [] typed closed = All-nil (λ o. ClaimHolds p (claim o))
     all_hold (o ∷ os) typed closed =
         let own = All-head (IsTypedFormula p) o os typed in
         All-cons (λ o. ClaimHolds p (claim o)) o os
-        (closed_hold p (claim o) wf (record { hypotheses = own.hypotheses; goal = own.goal }) (All-head IsClosed o os closed))
-        (all_hold os (All-tail (IsTypedFormula p) o os typed) (All-tail IsClosed o os closed))
+        (closed_hold p (claim o) wf (record { hypotheses = own.hypotheses; goal = own.goal }) (All-head (IsClosed p) o os closed))
+        (all_hold os (All-tail (IsTypedFormula p) o os typed) (All-tail (IsClosed p) o os closed))
 
     module _ (unwinding : UnwindingLaw) (typed : FormulasAreTyped) where
-      secured : All IsClosed (formulas p) → IsSecure p
-      secured closed =
+      proved : All (IsClosed p) (formulas p) → IsProved p
+      proved closed =
           let hold = all_hold (formulas p) (typed p wf) closed in
-          unwinding p wf (λ i inst admits. All-weaker (λ o. ClaimHolds p (claim o)) (λ o. HoldsIn (machine_of p i) (claim o)) (λ o h. h i inst) (formulas p) hold)
+          record {
+            closed = closed;
+            hold = hold;
+            secure = unwinding p wf (λ i inst admits. All-weaker (λ o. ClaimHolds p (claim o)) (λ o. HoldsIn (machine_of p i) (claim o)) (λ o h. h i inst) (formulas p) hold);
+          }
 
       -- ---- the answer
 
-      by_decisions : (bytes : List ℕ) (os : List Formula) → os ≡ formulas p → (second : Result (List Decision) Refusal) → AllDecided p 1 os second
-          → Onward (λ ds out. out ≡ Ok (check_answer p os ds)) second (Ok (printed bytes verdict.Ok)) → IsSecure p
-      by_decisions bytes os is (Err r) h e = absurd cc
-      by_decisions bytes os is (Ok ds) h e =
+      by_decisions : (owner : Option (List ℕ)) (bytes : List ℕ) (os : List Formula) → os ≡ formulas p → (second : Result (List Decision) Refusal) → AllDecided owner p 1 os second
+          → Onward (λ ds out. out ≡ Ok (check_answer p os ds)) second (Ok (printed bytes verdict.Ok)) → IsProved p
+      by_decisions owner bytes os is (Err r) h e = absurd cc
+      by_decisions owner bytes os is (Ok ds) h e =
           let same : printed bytes verdict.Ok ≡ check_answer p os ds = cc in
           let none = none_open (open_count ds) (sym (ap verdict_of same)) in
-          secured (subst (All IsClosed) is (all_closed 1 os ds h none))
+          proved (subst (All (IsClosed p)) is (all_closed owner p 1 os ds h none))
 
-      listed_is : (os : List Formula) (f : FormulaFault) → IsLimited f (Ok os) → ⊥
-      listed_is os limit.TooManyFormulas h = absurd cc
-      listed_is os (limit.TooManyInstances n) h = absurd cc
-      listed_is os (limit.TooManyNodes n) h = absurd cc
-      listed_is os (limit.TooManyTerms n) h = absurd cc
-      listed_is os limit.Memory h = h
-
-      listing_is : (all os : List Formula) (o : Option FormulaFault) → IsListing all o (Ok os) → os ≡ all
-      listing_is all os None h = cc
-      listing_is all os (Some f) h = absurd (listed_is os f h)
-
-      by_formulas : (bytes : List ℕ) (first : Result (List Formula) Refusal) → FormulasListed p first
-          → Onward (λ os. λ out. (second : Result (List Decision) Refusal) × AllDecided p 1 os second × Onward (λ ds out. out ≡ Ok (check_answer p os ds)) second out) first (Ok (printed bytes verdict.Ok)) → IsSecure p
-      by_formulas bytes (Err r) h e = absurd cc
-      by_formulas bytes (Ok os) h e = by_decisions bytes os (listing_is (formulas p) os (first_fault p 1 (formulas p)) h) e.0 e.1 e.2
+      by_formulas : (owner : Option (List ℕ)) (bytes : List ℕ) (first : Result (List Formula) Refusal) → FormulasListed owner p first
+          → Onward (λ os. λ out. (second : Result (List Decision) Refusal) × AllDecided owner p 1 os second × Onward (λ ds out. out ≡ Ok (check_answer p os ds)) second out) first (Ok (printed bytes verdict.Ok)) → IsProved p
+      by_formulas owner bytes (Err r) h e = absurd cc
+      by_formulas owner bytes (Ok os) h e = by_decisions owner bytes os (listing_is owner (formulas p) os (first_fault p 1 (formulas p)) h) e.0 e.1 e.2
 
 -- ---- the texts
 
@@ -176,9 +143,12 @@ module _ (interface : List ℕ) (x : System) where
           }
 
 module _ (closed_hold : ClosedClaimsHold) (unwinding : UnwindingLaw) (typed : FormulasAreTyped) where
+  pub answered_proved : AnsweredAreProved
+  answered_proved owner p bytes wf h = by_formulas p closed_hold wf unwinding typed owner bytes h.0 h.1 h.2
+
   module _ (files : Files) (interface bytes : List ℕ) where
     by_spec : (x : System) → SystemRead interface files (Ok x) → (first : Result Elaborated Refusal) → SystemJudged interface x first
-        → Onward (λ e. CheckAnswered e.spec) first (Ok (printed bytes verdict.Ok)) → IsSecureInterface interface files
+        → Onward (λ e. CheckAnswered None e.spec) first (Ok (printed bytes verdict.Ok)) → IsSecureInterface interface files
     by_spec x read (Err r) j h = absurd cc
     by_spec x read (Ok e) j h =
         let judged = judged_by interface x e j.0 j.1 j.2 in
@@ -189,7 +159,7 @@ module _ (closed_hold : ClosedClaimsHold) (unwinding : UnwindingLaw) (typed : Fo
           meant = judged.meant;
           sample = made e.spec judged.meant.well_formed x.sample judged.unbroken;
           admissible = judged.admissible;
-          secure = by_formulas e.spec closed_hold judged.meant.well_formed unwinding typed bytes h.0 h.1 h.2;
+          secure = (by_formulas e.spec closed_hold judged.meant.well_formed unwinding typed None bytes h.0 h.1 h.2).secure;
         }
 
     by_system : (first : Result System Refusal) → SystemRead interface files first → Onward (CheckWork interface) first (Ok (printed bytes verdict.Ok)) → IsSecureInterface interface files

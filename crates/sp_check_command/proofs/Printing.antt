@@ -1,5 +1,5 @@
 -- What is printed of decisions, as the answer.
-use Rattle.std.proofs.Common.{◌≡◌, ◌∙◌, ℕ, zero, suc, ◌<◌, ◌++◌, List, [], Result, Ok, ap, arith, length, map, refl, subst, sym}
+use Rattle.std.proofs.Common.{◌≡◌, ◌∙◌, ℕ, zero, suc, ◌<◌, ◌++◌, List, [], Option, Result, Ok, ap, arith, length, map, refl, subst, sym}
 use Rattle.std.proofs.lemmas.List.{length-map}
 use Rattle.sp_core.specs.Parts.{Parts}
 use Rattle.sp_sequent.specs.declared.formula.Formula.{Formula as Made}
@@ -12,11 +12,13 @@ use Rattle.sp_frame.specs.declared.refusal.Verdict.TheVariants as verdict
 use Rattle.sp_frame.specs.Endings.{Printing, Shows, verdict_of}
 use Rattle.sp_frame.specs.Steps.{Does, Gives, Then}
 use Rattle.sp_frame.proofs.Connective.{prints_after}
-use Rattle.sp_check_command.specs.Check.{CheckAnswered}
-use Rattle.sp_check_command.specs.Decided.{AllDecided, FormulasListed, open_count}
-use Rattle.sp_check_command.specs.Lines.{Lines, spells}
-use Rattle.sp_check_command.specs.Verdicts.{all_lines, check_answer, interface_line, last_line, verdict_by}
-use Rattle.sp_check_command.specs.declared.deciding.Decision.{Decision}
+use Rattle.sp_frame.specs.Uncertified.{Lines, spells}
+use Rattle.sp_report.specs.Headings.{interface_line}
+use Rattle.sp_formula_list.specs.Listed.{FormulasListed}
+use Rattle.sp_deciding.specs.Decided.{AllDecided, open_count}
+use Rattle.sp_deciding.specs.Verdicts.{all_lines, last_line, verdict_by}
+use Rattle.sp_deciding.specs.declared.deciding.Decision.{Decision}
+use Rattle.sp_check_command.specs.Check.{CheckAnswered, check_answer}
 
 pub refuses : (k : ℕ) → 0 < k → verdict.Refused ≡ verdict_by k
 refuses zero h = absurd (omega (arith, h))
@@ -42,11 +44,11 @@ told p fs ds k text v is bytes same =
     )
 
 -- the formulas are listed and decided, and then it is told
-pub answered : (p : Parts) (fs gs hs : List Made) (ds es : List Decision) (r : Result Printed Stop) → gs ≡ fs → hs ≡ fs → es ≡ ds
-    → FormulasListed p (Ok (map formula_as fs)) → AllDecided p 1 (map formula_as gs) (Ok ds) → Does (Printing spells (Gives (check_answer p (map formula_as hs) es))) r
-    → Does (Printing spells (CheckAnswered p)) r
-answered p fs gs hs ds es r given lent shown listed decided told =
-    let all = subst (λ xs. AllDecided p 1 (map formula_as xs) (Ok ds)) given decided in
+pub answered : (owner : Option (List ℕ)) (p : Parts) (fs gs hs : List Made) (ds es : List Decision) (r : Result Printed Stop) → gs ≡ fs → hs ≡ fs → es ≡ ds
+    → FormulasListed owner p (Ok (map formula_as fs)) → AllDecided owner p 1 (map formula_as gs) (Ok ds) → Does (Printing spells (Gives (check_answer p (map formula_as hs) es))) r
+    → Does (Printing spells (CheckAnswered owner p)) r
+answered owner p fs gs hs ds es r given lent shown listed decided told =
+    let all = subst (λ xs. AllDecided owner p 1 (map formula_as xs) (Ok ds)) given decided in
     let lines = subst (λ xs. Does (Printing spells (Gives (check_answer p (map formula_as xs) ds))) r) lent (subst (λ xs. Does (Printing spells (Gives (check_answer p (map formula_as hs) xs))) r) shown told) in
-    prints_after spells (FormulasListed p) (λ os. Then (AllDecided p 1 os) (λ ds. Gives (check_answer p os ds))) (map formula_as fs) r listed
-    (prints_after spells (AllDecided p 1 (map formula_as fs)) (λ ds. Gives (check_answer p (map formula_as fs) ds)) ds r all lines)
+    prints_after spells (FormulasListed owner p) (λ os. Then (AllDecided owner p 1 os) (λ ds. Gives (check_answer p os ds))) (map formula_as fs) r listed
+    (prints_after spells (AllDecided owner p 1 (map formula_as fs)) (λ ds. Gives (check_answer p (map formula_as fs) ds)) ds r all lines)

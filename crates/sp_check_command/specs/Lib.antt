@@ -1,5 +1,2 @@
-pub mod Lines
-pub mod Decided
-pub mod Verdicts
 pub mod Check
 pub mod Secure

@@ -1,15 +1,31 @@
 -- What ACCEPTED means, for whoever reads it.
-use Rattle.std.specs.Prelude.{ℕ, List, Ok}
+use Rattle.std.specs.Prelude.{ℕ, List, Option, Ok}
+use Rattle.std.specs.List.{All}
 use Rattle.sp_outside.specs.Files.{Files}
 use Rattle.sp_core.specs.Instances.{IsAdmissible, IsInstanceOf, IsSecure, filling_of}
 use Rattle.sp_core.specs.Parts.{Parts}
+use Rattle.sp_core.specs.WellFormed.{IsWellFormed}
+use Rattle.sp_claims.specs.Models.{ClaimHolds}
+use Rattle.sp_formulas.specs.Formulas.{formulas}
+use Rattle.sp_hold.specs.Holding.{claim}
 use Rattle.sp_instance.specs.Instances.{instance_of}
 use Rattle.sp_frame.specs.declared.refusal.Verdict.TheVariants as verdict
 use Rattle.sp_frame.specs.Endings.{printed}
 use Rattle.sp_system.specs.Interfaces.{IsOnlySpec}
 use Rattle.sp_system.specs.System.{SystemRead}
 use Rattle.sp_system.specs.declared.system.System.{System}
-use Rattle.sp_check_command.specs.Check.{CheckDone}
+use Rattle.sp_deciding.specs.Laws.{IsClosed}
+use Rattle.sp_check_command.specs.Check.{CheckAnswered, CheckDone}
+
+-- No flow formula of the specification has an open branch, so each holds under every reading, and the specification is secure.
+pub record IsProved (p : Parts) : Type 0 where
+  pub closed : All (IsClosed p) (formulas p)
+  pub hold : All (λ o. ClaimHolds p (claim o)) (formulas p)
+  pub secure : IsSecure p
+
+-- the law: where the work on a well-formed specification comes to lines that accept, all that is so
+abbrev pub AnsweredAreProved : Type 0
+AnsweredAreProved = (owner : Option (List ℕ)) (p : Parts) (bytes : List ℕ) → IsWellFormed p → CheckAnswered owner p (Ok (printed bytes verdict.Ok)) → IsProved p
 
 -- The files read as an interface with its modules and its sample; they stand for one specification, of which the sample is an
 -- admissible instance; and the specification is secure.

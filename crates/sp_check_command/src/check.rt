@@ -1,25 +1,26 @@
 //! `check`: whether each flow formula of an interface is proved.
 
-ghost use Rattle.std.specs.Prelude.{◌≡◌, Ok, map};
+ghost use Rattle.std.specs.Prelude.{◌≡◌, All, map, option_copied};
 ghost use Rattle.sp_formulas.specs.Formulas.{formula_as, formulas};
 ghost use Rattle.sp_formulas.specs.Typed.{AreTypedFormulas};
 ghost use Rattle.sp_frame.specs.Endings.{Printing};
 ghost use Rattle.sp_frame.specs.Loads.{Loads};
 ghost use Rattle.sp_frame.specs.Steps.{Does, Gives};
-ghost use Rattle.sp_check_command.specs.Check.{CheckAnswered, CheckDone, CheckWork};
-ghost use Rattle.sp_check_command.specs.Decided.{AllDecided};
-ghost use Rattle.sp_check_command.specs.Lines.{spells};
-ghost use Rattle.sp_check_command.specs.Verdicts.{check_answer};
+ghost use Rattle.sp_frame.specs.Uncertified.{spells};
+ghost use Rattle.sp_deciding.specs.Decided as definitions;
+ghost use Rattle.sp_deciding.specs.Laws.{IsClosed};
+ghost use Rattle.sp_check_command.specs.Check.{CheckAnswered, CheckDone, CheckWork, check_answer};
 
-use crate::deciding::{Decision, decide_all, open_count};
-use crate::listing::listed;
-use crate::printed::{push_accepted, push_decisions, push_interface, push_refused};
 use sp_core::Spec;
+use sp_deciding::{Decision, decide_all, open_count, push_accepted, push_decisions, push_refused};
 use sp_formula_laws::tell_typed;
+use sp_formula_list::listed;
 use sp_frame::{LoadStop, Printed, Stop, Verdict, as_loading};
 use sp_outside::Library;
+use sp_report::print_interface;
 use sp_sequent::Formula;
 use sp_system::{Elaborated, System, judge_system, load_system};
+use sp_text::Name;
 use sp_unwinding::accept;
 use std::alloc::Global;
 
@@ -46,16 +47,19 @@ fn check_work(alloc: Global, interface: &str, system: &System) -> Result<Printed
 {
     let elaborated = judge_system(alloc, interface, system)?;
     let Elaborated { spec, scopes: _ } = elaborated;
-    answered(alloc, spec)
+    check_answered(alloc, spec, None)
 }
 
-// The work over the specification.
-fn answered(alloc: Global, spec: Spec) -> Result<Printed, Stop>
-    ensures { Does (Printing spells (CheckAnswered spec)) result }
+/// The work over a specification. A refusal has the name of its owner, where the work is on several interfaces.
+///
+/// # Errors
+/// `Refused` where a step is refused, and `Memory`.
+pub fn check_answered(alloc: Global, spec: Spec, owner: Option<&Name>) -> Result<Printed, Stop>
+    ensures { Does (Printing spells (CheckAnswered (option_copied owner.entry) spec)) result }
 {
     tell_typed(&spec);
-    let formulas = listed(alloc, &spec)?;
-    let decisions = decide_all(alloc, &spec, formulas.items())?;
+    let formulas = listed(alloc, &spec, owner)?;
+    let decisions = decide_all(alloc, &spec, formulas.items(), owner)?;
     told(alloc, spec, formulas.items(), decisions.items())
 }
 
@@ -68,11 +72,11 @@ fn told(
 ) -> Result<Printed, Stop>
     requires listed { map formula_as made.now ≡ formulas spec }
     requires typed { AreTypedFormulas spec (map formula_as made.now) }
-    requires decided { AllDecided spec 1 (map formula_as made.now) (Ok decisions.now) }
+    requires closed { definitions.open_count decisions.now ≡ 0 → All (IsClosed spec) (map formula_as made.now) }
     ensures { Does (Printing spells (Gives (check_answer spec (map formula_as made.now) decisions.now))) result }
 {
     let mut bytes = Vec::new(alloc);
-    push_interface(alloc, &mut bytes, &spec)?;
+    print_interface(alloc, &spec, &mut bytes)?;
     push_decisions(alloc, &mut bytes, &spec, made, decisions)?;
     let open = open_count(decisions);
     if open > 0 {

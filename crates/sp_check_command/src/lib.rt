@@ -1,13 +1,8 @@
 //! `check`: whether each flow formula of an interface is proved, and ACCEPTED where all are.
 #![tactic(auto)]
 
-mod atoms;
 mod check;
-mod deciding;
 mod laws;
-mod listing;
-mod printed;
 
-pub use check::check_command;
-pub use deciding::Decision;
-pub use laws::{accepted_law, check_law};
+pub use check::{check_answered, check_command};
+pub use laws::{accepted_law, answered_law, check_law, proved_law};

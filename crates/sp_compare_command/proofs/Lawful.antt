@@ -14,7 +14,7 @@ use Rattle.sp_frame.specs.declared.refusal.Refusal.{Refusal}
 use Rattle.sp_frame.specs.Laws.{IsDue, IsLawful}
 use Rattle.sp_frame.proofs.Lawful.{demand_lawful, judged_lawful, then_lawful, then_once}
 use Rattle.sp_sorts.proofs.Exact.{lexed_once}
-use Rattle.sp_run_command.specs.Lines.{Lines}
+use Rattle.sp_frame.specs.Uncertified.{Lines}
 use Rattle.sp_run_command.specs.Run.{full_at}
 use Rattle.sp_run_command.proofs.Lawful.{prepared_lawful, read_lawful}
 use Rattle.sp_compare_command.specs.Compare.{CompareDone, ComparePrinted, IsBroken, IsCompared, SpecLevelJudged}

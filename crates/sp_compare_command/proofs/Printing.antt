@@ -15,7 +15,7 @@ use Rattle.sp_frame.specs.declared.refusal.Stop.{Stop}
 use Rattle.sp_frame.specs.declared.refusal.Stop.TheVariants as stop
 use Rattle.sp_frame.specs.Endings.{Printing}
 use Rattle.sp_frame.specs.Steps.{Does}
-use Rattle.sp_run_command.specs.Lines.{spells}
+use Rattle.sp_frame.specs.Uncertified.{spells}
 use Rattle.sp_run_command.specs.Prepared.{RunPrepared}
 use Rattle.sp_run_command.specs.declared.texts.Prepared.{Prepared}
 use Rattle.sp_run_command.specs.declared.texts.RunTexts.{RunTexts}

@@ -22,9 +22,10 @@ use Rattle.sp_frame.specs.declared.refusal.Verdict.TheVariants as verdict
 use Rattle.sp_frame.specs.Endings.{printed}
 use Rattle.sp_frame.specs.Steps.{Step, Then}
 use Rattle.sp_sorts.specs.Levels.{LevelJudged}
-use Rattle.sp_run_command.specs.Lines.{Lines}
+use Rattle.sp_frame.specs.Uncertified.{Lines}
 use Rattle.sp_run_command.specs.Prepared.{RunPrepared, RunRead}
-use Rattle.sp_run_command.specs.Printed.{conflict_text, interface_line}
+use Rattle.sp_report.specs.Headings.{interface_line}
+use Rattle.sp_run_command.specs.Printed.{conflict_text}
 use Rattle.sp_run_command.specs.Run.{full_at}
 use Rattle.sp_run_command.specs.declared.texts.Prepared.{Prepared}
 use Rattle.sp_run_command.specs.declared.texts.RunTexts.{RunTexts}

@@ -5,7 +5,7 @@ ghost use Rattle.sp_stepping.specs.declared.fault.StepFault.TheVariants.{StateFu
 ghost use Rattle.sp_frame.specs.Endings.{Printing};
 ghost use Rattle.sp_frame.specs.Loads.{Loads};
 ghost use Rattle.sp_frame.specs.Steps.{Does};
-ghost use Rattle.sp_run_command.specs.Lines.{spells};
+ghost use Rattle.sp_frame.specs.Uncertified.{spells};
 ghost use Rattle.sp_run_command.specs.Prepared.{IsPrepared};
 ghost use Rattle.sp_compare_command.specs.Compare.{CompareAnswered, CompareDone, CompareWork, IsBroken, IsCompared};
 

@@ -6,9 +6,8 @@ ghost use Rattle.sp_compare_command.specs.Compare as definitions;
 ghost use Rattle.sp_compare_command.specs.Compare.{differs_text, head_text, same_text};
 
 use sp_core::{Answer, Spec};
-use sp_run_command::{
-    Prepared, level_name, push_answer, push_conflict, push_count, push_interface,
-};
+use sp_report::{level_name, print_interface, push_count};
+use sp_run_command::{Prepared, push_answer, push_conflict};
 use sp_text::{Memory, push_text};
 use sp_values::{Invocation, Place, Value};
 use std::alloc::Global;
@@ -17,7 +16,7 @@ use std::alloc::Global;
 fn push_head(alloc: Global, out: &mut Vec<u8>, spec: &Spec, level: u16) -> Result<(), Memory>
     ensures { OnOk result (out.new.items ≡ out.old.items ++ head_text spec.now level) }
 {
-    push_interface(alloc, out, spec)?;
+    print_interface(alloc, spec, out)?;
     push_text(alloc, out, b"LEVEL ")?;
     push_text(alloc, out, level_name(spec, level))?;
     push_text(alloc, out, b"\n")
@@ -30,7 +29,7 @@ pub fn same_lines(alloc: Global, x: &Prepared, level: u16, kept: usize) -> Resul
     let mut out = Vec::new(alloc);
     push_head(alloc, &mut out, &x.elaborated.spec, level)?;
     push_text(alloc, &mut out, b"SAME ")?;
-    push_count(alloc, &mut out, kept)?;
+    push_count(alloc, &mut out, kept as u64)?;
     push_text(alloc, &mut out, b"\n")?;
     Ok(out)
 }
@@ -53,7 +52,7 @@ pub fn differs_lines(
     let mut out = Vec::new(alloc);
     push_head(alloc, &mut out, spec, level)?;
     push_text(alloc, &mut out, b"DIFFERS ")?;
-    push_count(alloc, &mut out, number)?;
+    push_count(alloc, &mut out, number as u64)?;
     push_text(alloc, &mut out, b" ")?;
     push_answer(alloc, &mut out, spec, instance, function, whole)?;
     push_text(alloc, &mut out, b" ")?;

@@ -1,6 +1,6 @@
 -- What commands certify, and which bytes spell certificates of it, for what a report is. No command certifies anything yet.
 use Rattle.std.specs.Prelude.{ℕ, List}
-use Rattle.sp_run_command.specs.Lines as lines
+use Rattle.sp_frame.specs.Uncertified as lines
 
 abbrev pub Certified : Type 0
 Certified = ⊥

@@ -1,3 +1,1 @@
 pub mod Lawful
-pub mod ListLaws
-mod Listing

@@ -1,4 +1,2 @@
 pub mod Formulas
-pub mod Lines
-pub mod Listed
 pub mod Printed

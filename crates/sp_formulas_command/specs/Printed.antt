@@ -2,19 +2,12 @@
 use Rattle.std.specs.Prelude.{ℕ, suc, List, [], ◌∷◌, ◌++◌, codes, decimal, length}
 use Rattle.sp_core.specs.Parts.{Parts}
 use Rattle.sp_formulas.specs.Formulas.{Formula}
-use Rattle.sp_report.specs.Formulas.{expr_line, hypothesis_lines, kind_text}
-
--- `INTERFACE name`
-abbrev pub interface_line : Parts → List ℕ
-interface_line p = codes "INTERFACE " ++ p.name ++ codes "\n"
-
--- `n fun kind`
-abbrev pub heading : ℕ → Formula → List ℕ
-heading n f = decimal n ++ (codes " " ++ (f.name ++ (codes " " ++ kind_text f.kind)))
+use Rattle.sp_report.specs.Formulas.{expr_line, hypothesis_lines}
+use Rattle.sp_report.specs.Headings.{heading, interface_line}
 
 -- the lines of the n-th formula: `FORMULA n fun kind`, `HYP e` for each hypothesis in order, and `GOAL e`
 abbrev pub formula_lines : Parts → ℕ → Formula → List ℕ
-formula_lines p n f = codes "FORMULA " ++ (heading n f ++ (codes "\n" ++ (hypothesis_lines p f.vars f.hypotheses ++ expr_line (codes "GOAL ") p f.vars f.goal)))
+formula_lines p n f = codes "FORMULA " ++ (heading n f.name f.kind ++ (codes "\n" ++ (hypothesis_lines p f.vars f.hypotheses ++ expr_line (codes "GOAL ") p f.vars f.goal)))
 
 -- those of formulas, of which the first has number n
 abbrev pub list_lines : Parts → ℕ → List Formula → List ℕ

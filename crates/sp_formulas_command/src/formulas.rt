@@ -3,12 +3,12 @@
 ghost use Rattle.sp_frame.specs.Endings.{Printing};
 ghost use Rattle.sp_frame.specs.Loads.{Loads};
 ghost use Rattle.sp_frame.specs.Steps.{Does};
+ghost use Rattle.sp_frame.specs.Uncertified.{spells};
 ghost use Rattle.sp_formulas_command.specs.Formulas.{FormulasDone, FormulasWork, ListPrinted};
-ghost use Rattle.sp_formulas_command.specs.Lines.{spells};
 
-use crate::listed::list_formulas;
 use crate::printed::report_lines;
 use sp_core::Spec;
+use sp_formula_list::listed;
 use sp_frame::{LoadStop, Printed, Stop, Verdict, as_loading};
 use sp_outside::Library;
 use sp_system::{System, judge_system, load_system};
@@ -36,17 +36,17 @@ fn formulas_work(alloc: Global, interface: &str, system: &System) -> Result<Prin
     ensures { Does (Printing spells (FormulasWork interface.now system.now)) result }
 {
     let elaborated = judge_system(alloc, interface, system)?;
-    listed(alloc, &elaborated.spec)
+    list_printed(alloc, &elaborated.spec)
 }
 
 // The printed list.
 #[tactic(auto, using(sp_frame::proofs::Connective::prints_after, sp_frame::proofs::Connective::prints_refused))]
-fn listed(alloc: Global, spec: &Spec) -> Result<Printed, Stop>
+fn list_printed(alloc: Global, spec: &Spec) -> Result<Printed, Stop>
     ensures { Does (Printing spells (ListPrinted spec.now)) result }
 {
-    let all = list_formulas(alloc, spec)?;
+    let all = listed(alloc, spec, None)?;
     Ok(Printed {
-        bytes: report_lines(alloc, spec, &all)?,
+        bytes: report_lines(alloc, spec, all.items())?,
         verdict: Verdict::Ok,
     })
 }

@@ -3,9 +3,7 @@
 
 mod formulas;
 mod laws;
-mod listed;
 mod printed;
 
 pub use formulas::formulas_command;
 pub use laws::formulas_law;
-pub use listed::list_formulas;

@@ -1,33 +1,15 @@
 //! The lines of a list of formulas.
 
-ghost use Rattle.std.specs.Prelude.{◌≡◌, ◌≤◌, ◌++◌, IfOk, OnOk, decimal, length, map};
+ghost use Rattle.std.specs.Prelude.{◌≡◌, ◌≤◌, ◌++◌, IfOk, OnOk, length, map};
 ghost use Rattle.sp_text.specs.declared.limits.TheConstants.{MOST_FORMULAS};
 ghost use Rattle.sp_formulas.specs.Formulas.{formula_as};
-ghost use Rattle.sp_formulas_command.specs.Printed.{formula_lines, interface_line, list_lines, list_text};
+ghost use Rattle.sp_formulas_command.specs.Printed.{formula_lines, list_lines, list_text};
 
-use itoa::Buffer;
 use sp_core::Spec;
-use sp_report::print_formula;
+use sp_report::{print_formula, print_interface, push_count};
 use sp_sequent::Formula;
 use sp_text::{Memory, push_text};
 use std::alloc::Global;
-
-// Appends `INTERFACE name`.
-fn push_interface(alloc: Global, out: &mut Vec<u8>, spec: &Spec) -> Result<(), Memory>
-    ensures { OnOk result (out.new.items ≡ out.old.items ++ interface_line spec.now) }
-{
-    push_text(alloc, out, b"INTERFACE ")?;
-    push_text(alloc, out, spec.name().bytes())?;
-    push_text(alloc, out, b"\n")
-}
-
-// Appends a count in decimal.
-fn push_count(alloc: Global, out: &mut Vec<u8>, count: usize) -> Result<(), Memory>
-    ensures { OnOk result (out.new.items ≡ out.old.items ++ decimal count) }
-{
-    let mut buffer = Buffer::new();
-    push_text(alloc, out, buffer.format(count).as_bytes())
-}
 
 // Appends the lines of the formula of this number.
 fn push_formula(
@@ -64,10 +46,10 @@ pub fn report_lines(alloc: Global, spec: &Spec, all: &[Formula]) -> Result<Vec<u
     ensures { IfOk result (λ text. text.items ≡ list_text spec.now (map formula_as all.now)) }
 {
     let mut out = Vec::new(alloc);
-    push_interface(alloc, &mut out, spec)?;
+    print_interface(alloc, spec, &mut out)?;
     push_formulas(alloc, &mut out, spec, all)?;
     push_text(alloc, &mut out, b"FORMULAS ")?;
-    push_count(alloc, &mut out, all.len())?;
+    push_count(alloc, &mut out, all.len() as u64)?;
     push_text(alloc, &mut out, b"\n")?;
     Ok(out)
 }

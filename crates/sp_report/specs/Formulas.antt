@@ -1,28 +1,11 @@
 -- The lines of a formula.
-use Rattle.std.specs.Prelude.{ℕ, List, [], ◌∷◌, ◌++◌, codes, decimal, map}
+use Rattle.std.specs.Prelude.{ℕ, List, [], ◌∷◌, ◌++◌, codes, map}
 use Rattle.sp_core.specs.declared.function.Formal.{Formal}
 use Rattle.sp_core.specs.Parts.{Parts}
 use Rattle.sp_core.specs.Tree.{Tree, tree}
 use Rattle.sp_sequent.specs.declared.formula.Formula.{Formula}
-use Rattle.sp_sequent.specs.declared.formula.FormulaKind.{FormulaKind}
-use Rattle.sp_sequent.specs.declared.formula.FormulaKind.TheVariants as kind
 use Rattle.sp_report.specs.Expressions.{expr_text}
-
-abbrev pub kind_text : FormulaKind → List ℕ
-kind_text kind.ExceptionReference = codes "exception-reference"
-kind_text kind.DerivationReference = codes "derivation-reference"
-kind_text kind.Change = codes "change"
-kind_text kind.GuardReference = codes "guard-reference"
-kind_text kind.ValueReference = codes "value-reference"
-kind_text kind.TargetReference = codes "target-reference"
-kind_text kind.ResultGuardReference = codes "result-guard-reference"
-kind_text kind.ResultReference = codes "result-reference"
-kind_text kind.Agreement = codes "agreement"
-kind_text kind.MappingReference = codes "mapping-reference"
-
--- `n fun kind`, by which a formula is named in reports
-abbrev pub heading : ℕ → Formula → List ℕ
-heading n f = decimal n ++ (codes " " ++ (f.name ++ (codes " " ++ kind_text f.kind)))
+use Rattle.sp_report.specs.Headings.{heading}
 
 -- a word, an expression and a line feed
 abbrev pub expr_line : List ℕ → Parts → List Formal → Tree → List ℕ
@@ -35,4 +18,4 @@ hypothesis_lines p xs (e ∷ es) = expr_line (codes "HYP ") p xs e ++ hypothesis
 
 -- `FORMULA n fun kind`, the hypotheses, and `GOAL e`
 abbrev pub formula_text : Parts → ℕ → Formula → List ℕ
-formula_text p n f = codes "FORMULA " ++ (heading n f ++ (codes "\n" ++ (hypothesis_lines p f.vars (map tree f.hyps) ++ expr_line (codes "GOAL ") p f.vars (tree f.goal))))
+formula_text p n f = codes "FORMULA " ++ (heading n f.name f.kind ++ (codes "\n" ++ (hypothesis_lines p f.vars (map tree f.hyps) ++ expr_line (codes "GOAL ") p f.vars (tree f.goal))))

@@ -2,43 +2,14 @@
 
 ghost use Rattle.std.specs.Prelude.{◌≡◌, ◌++◌, OnOk, OnErr, map};
 ghost use Rattle.sp_core.specs.Tree.{tree};
-ghost use Rattle.sp_report.specs.Formulas.{expr_line, formula_text, heading, hypothesis_lines, kind_text};
+ghost use Rattle.sp_report.specs.Formulas.{expr_line, formula_text, hypothesis_lines};
 
-use crate::counts::push_count;
 use crate::expressions::push_expr;
+use crate::headings::push_heading;
 use sp_core::{Expr, Formal, Spec};
-use sp_sequent::{Formula, FormulaKind};
+use sp_sequent::Formula;
 use sp_text::{Memory, push_text};
 use std::alloc::Global;
-
-/// The name of a kind of formulas.
-fn kind_text(kind: FormulaKind) -> &'static [u8]
-    ensures { result.now ≡ kind_text kind }
-{
-    match kind {
-        FormulaKind::ExceptionReference => b"exception-reference",
-        FormulaKind::DerivationReference => b"derivation-reference",
-        FormulaKind::Change => b"change",
-        FormulaKind::GuardReference => b"guard-reference",
-        FormulaKind::ValueReference => b"value-reference",
-        FormulaKind::TargetReference => b"target-reference",
-        FormulaKind::ResultGuardReference => b"result-guard-reference",
-        FormulaKind::ResultReference => b"result-reference",
-        FormulaKind::Agreement => b"agreement",
-        FormulaKind::MappingReference => b"mapping-reference",
-    }
-}
-
-/// Appends `n fun kind`.
-fn push_heading(alloc: Global, out: &mut Vec<u8>, n: u32, f: &Formula) -> Result<(), Memory>
-    ensures { OnOk result (out.new.items ≡ out.old.items ++ heading n f.now) }
-{
-    push_count(alloc, out, u64::from(n))?;
-    push_text(alloc, out, b" ")?;
-    push_text(alloc, out, f.name.bytes())?;
-    push_text(alloc, out, b" ")?;
-    push_text(alloc, out, kind_text(f.kind))
-}
 
 /// Appends a line of a word and an expression.
 fn push_expr_line(
@@ -81,7 +52,7 @@ fn push_formula(
     ensures { OnOk result (out.new.items ≡ out.old.items ++ formula_text spec.now n f.now) }
 {
     push_text(alloc, out, b"FORMULA ")?;
-    push_heading(alloc, out, n, f)?;
+    push_heading(alloc, out, u64::from(n), f)?;
     push_text(alloc, out, b"\n")?;
     push_hypotheses(alloc, out, spec, f.vars.items(), f.hyps.items())?;
     push_expr_line(alloc, out, b"GOAL ", spec, f.vars.items(), &f.goal)

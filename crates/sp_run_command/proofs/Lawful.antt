@@ -20,7 +20,7 @@ use Rattle.sp_frame.proofs.Lawful.{gives_lawful, judged_lawful, then_lawful}
 use Rattle.sp_sorts.specs.Sorts.{instances, scripts}
 use Rattle.sp_sorts.proofs.Exact.{instance_once, script_once}
 use Rattle.sp_system.proofs.Lawful.{instance_lawful, judged_once, judged_system_lawful, read_lawful as system_lawful, tree_lawful}
-use Rattle.sp_run_command.specs.Lines.{Lines}
+use Rattle.sp_frame.specs.Uncertified.{Lines}
 use Rattle.sp_run_command.specs.Prepared.{RunPrepared, RunRead}
 use Rattle.sp_run_command.specs.Run.{IsBroken, RunDone, RunPrinted, full_at, run_text}
 use Rattle.sp_run_command.specs.declared.texts.RunTexts.{RunTexts}

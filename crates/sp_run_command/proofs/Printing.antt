@@ -19,7 +19,7 @@ use Rattle.sp_frame.specs.declared.refusal.Stop.TheVariants as stop
 use Rattle.sp_frame.specs.declared.refusal.Verdict.TheVariants as verdict
 use Rattle.sp_frame.specs.Endings.{Printing, printed}
 use Rattle.sp_frame.specs.Steps.{Does}
-use Rattle.sp_run_command.specs.Lines.{spells}
+use Rattle.sp_frame.specs.Uncertified.{spells}
 use Rattle.sp_run_command.specs.Run.{IsBroken, RunPrinted, run_text}
 
 module _ (p : Parts) (i : InstanceParts) (js : List Invocation) where

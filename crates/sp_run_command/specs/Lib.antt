@@ -1,4 +1,3 @@
-pub mod Lines
 pub mod Prepared
 pub mod Printed
 pub mod Run

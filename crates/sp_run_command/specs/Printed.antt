@@ -10,10 +10,6 @@ use Rattle.sp_core.specs.Parts.{Parts}
 use Rattle.sp_report.specs.Answers.{answer_text, value_text}
 use Rattle.sp_report.specs.Constants.{name_of_function}
 
--- `INTERFACE name`
-abbrev pub interface_line : Parts → List ℕ
-interface_line p = codes "INTERFACE " ++ p.name ++ codes "\n"
-
 module _ (p : Parts) (i : InstanceParts) where
   -- values with a comma alone before each
   abbrev pub more_text : List Value → List ℕ

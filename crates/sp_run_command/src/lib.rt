@@ -8,7 +8,6 @@ mod texts;
 mod values;
 
 pub use laws::run_law;
-pub use printed::{push_answer, push_conflict, push_count, push_interface};
+pub use printed::{push_answer, push_conflict};
 pub use run::{full_at, run_command};
 pub use texts::{Prepared, RunTexts, load_run, prepare};
-pub use values::level_name;

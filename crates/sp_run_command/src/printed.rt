@@ -1,45 +1,16 @@
 //! The texts of invocations, answers and conflicts.
 
-ghost use Rattle.std.specs.Prelude.{◌≡◌, ◌++◌, OnOk, decimal, slice_get};
+ghost use Rattle.std.specs.Prelude.{◌≡◌, ◌++◌, OnOk};
 ghost use Rattle.sp_core.specs.Instances.{IsInstanceOf};
 ghost use Rattle.sp_report.specs.Answers.{answer_text};
-ghost use Rattle.sp_report.specs.Constants.{name_of_function};
-ghost use Rattle.sp_run_command.specs.Printed.{answer_line, answer_lines, call_text, conflict_text, interface_line};
+ghost use Rattle.sp_run_command.specs.Printed.{answer_line, answer_lines, call_text, conflict_text};
 
 use crate::values::{push_value, push_values};
-use itoa::Buffer;
 use sp_core::{Answer, Instance, Spec};
-use sp_report::print_answer;
+use sp_report::{function_name, print_answer, push_count};
 use sp_text::{Memory, push_text};
 use sp_values::{Invocation, Place, Value};
 use std::alloc::Global;
-
-/// Appends `INTERFACE name`.
-pub fn push_interface(alloc: Global, out: &mut Vec<u8>, spec: &Spec) -> Result<(), Memory>
-    ensures { OnOk result (out.new.items ≡ out.old.items ++ interface_line spec.now) }
-{
-    push_text(alloc, out, b"INTERFACE ")?;
-    push_text(alloc, out, spec.name().bytes())?;
-    push_text(alloc, out, b"\n")
-}
-
-/// Appends a count in decimal.
-pub fn push_count(alloc: Global, out: &mut Vec<u8>, count: usize) -> Result<(), Memory>
-    ensures { OnOk result (out.new.items ≡ out.old.items ++ decimal count) }
-{
-    let mut buffer = Buffer::new();
-    push_text(alloc, out, buffer.format(count).as_bytes())
-}
-
-// The name of a function, or nothing.
-fn function_name(spec: &Spec, function: u16) -> &[u8]
-    ensures { result.now ≡ name_of_function (slice_get spec.now.functions function) }
-{
-    match spec.functions().get(usize::from(function)) {
-        Some(function) => function.name.bytes(),
-        None => b"",
-    }
-}
 
 // Appends a function with its values.
 fn push_call(
@@ -93,7 +64,7 @@ fn push_line(
     requires { IsInstanceOf spec.now instance.now }
     ensures { OnOk result (out.new.items ≡ out.old.items ++ answer_line spec.now instance.now number invocation.now answer) }
 {
-    push_count(alloc, out, number)?;
+    push_count(alloc, out, number as u64)?;
     push_text(alloc, out, b" ")?;
     let function = invocation.fun;
     push_call(
@@ -144,7 +115,7 @@ pub fn push_conflict(
     requires { IsInstanceOf spec.now instance.now }
     ensures { OnOk result (out.new.items ≡ out.old.items ++ conflict_text spec.now instance.now number place.now first second) }
 {
-    push_count(alloc, out, number)?;
+    push_count(alloc, out, number as u64)?;
     push_text(alloc, out, b" ")?;
     push_call(alloc, out, spec, instance, place.fun, place.args.values())?;
     push_text(alloc, out, b" ")?;

@@ -5,17 +5,18 @@ ghost use Rattle.sp_stepping.specs.declared.fault.StepFault.TheVariants.{StateFu
 ghost use Rattle.sp_frame.specs.Endings.{Printing};
 ghost use Rattle.sp_frame.specs.Loads.{Loads};
 ghost use Rattle.sp_frame.specs.Steps.{Does};
-ghost use Rattle.sp_run_command.specs.Lines.{spells};
+ghost use Rattle.sp_frame.specs.Uncertified.{spells};
 ghost use Rattle.sp_run_command.specs.Prepared.{IsPrepared};
 ghost use Rattle.sp_run_command.specs.Run as definitions;
 ghost use Rattle.sp_run_command.specs.Run.{IsBroken, RunAnswered, RunDone, RunWork, run_text};
 
-use crate::printed::{push_conflict, push_count, push_interface, push_lines};
+use crate::printed::{push_conflict, push_lines};
 use crate::texts::{Prepared, RunTexts, load_run, prepare};
 use sp_animator::{RunFault, animate};
 use sp_core::{Answer, State};
 use sp_frame::{LoadStop, Printed, Refusal, Stop, Verdict, WorkLimit, WorkPlace, as_loading};
 use sp_outside::Library;
+use sp_report::{print_interface, push_count};
 use sp_stepping::StepFault;
 use sp_text::{Memory, Quantity, push_text};
 use sp_values::{Place, Value};
@@ -112,10 +113,10 @@ fn run_lines(alloc: Global, x: &Prepared, answers: &[Answer]) -> Result<Vec<u8>,
     let spec = &x.elaborated.spec;
     let script = x.script.items();
     let mut out = Vec::new(alloc);
-    push_interface(alloc, &mut out, spec)?;
+    print_interface(alloc, spec, &mut out)?;
     push_lines(alloc, &mut out, spec, &x.instance, script, answers)?;
     push_text(alloc, &mut out, b"END ")?;
-    push_count(alloc, &mut out, script.len())?;
+    push_count(alloc, &mut out, script.len() as u64)?;
     push_text(alloc, &mut out, b"\n")?;
     Ok(out)
 }
@@ -136,7 +137,7 @@ fn conflict_lines(
     let spec = &x.elaborated.spec;
     let instance = &x.instance;
     let mut out = Vec::new(alloc);
-    push_interface(alloc, &mut out, spec)?;
+    print_interface(alloc, spec, &mut out)?;
     push_lines(alloc, &mut out, spec, instance, x.script.items(), answers)?;
     push_text(alloc, &mut out, b"CONFLICT ")?;
     push_conflict(

@@ -3,11 +3,11 @@
 ghost use Rattle.std.specs.Prelude.{◌≡◌, ◌++◌, [], OnOk, slice_index_or};
 ghost use Rattle.sp_core.specs.Instances.{IsInstanceOf};
 ghost use Rattle.sp_report.specs.Answers.{value_text};
-ghost use Rattle.sp_report.specs.Constants as constants;
 ghost use Rattle.sp_report.specs.Constants.{nth_name};
 ghost use Rattle.sp_run_command.specs.Printed.{more_text, values_text};
 
 use sp_core::{Instance, Spec};
+use sp_report::{level_name, truth_text};
 use sp_text::{Memory, push_number, push_text};
 use sp_values::Value;
 use std::alloc::Global;
@@ -29,23 +29,6 @@ pub fn push_value(
         Value::Level(level) => push_text(alloc, out, level_name(spec, level)),
         Value::Member(ty, member) => push_text(alloc, out, member_name(spec, instance, ty, member)),
         Value::Unknown => push_text(alloc, out, b"?"),
-    }
-}
-
-fn truth_text(truth: bool) -> &'static [u8]
-    ensures { result.now ≡ constants.truth_text truth }
-{
-    if truth { b"TRUE" } else { b"FALSE" }
-}
-
-/// The name of a level, or nothing.
-pub fn level_name(spec: &Spec, level: u16) -> &[u8]
-    ensures { result.now ≡ nth_name spec.now.level_names level }
-{
-    if level < spec.lattice().count() {
-        spec.level_name(level).bytes()
-    } else {
-        b""
     }
 }
 

@@ -2,4 +2,4 @@ use Rattle.sp_frame.proofs.Connective.{prints_after}
 use Rattle.sp_check_command.proofs.check.check_work.Goals as goal
 
 pub returns : goal.returns
-returns c = prints_after _ _ _ c.in_ok-elaborated.elaborated _ c.in_ok-elaborated.ensures c.answered.ensures
+returns c = prints_after _ _ _ c.in_ok-elaborated.elaborated _ c.in_ok-elaborated.ensures c.check_answered.ensures

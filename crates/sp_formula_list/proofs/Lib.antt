@@ -1,0 +1,4 @@
+pub mod Given
+pub mod Lawful
+mod Few
+mod Stops

@@ -1,0 +1,8 @@
+//! The list of the flow formulas of a specification, as a step of a command.
+#![tactic(auto)]
+
+mod laws;
+mod listed;
+
+pub use laws::{listed_law, listing_law};
+pub use listed::{exceeded, listed, refused};

@@ -1,5 +1,6 @@
 -- What is printed of decisions, as the answer.
 use Rattle.std.proofs.Common.{◌≡◌, ◌∙◌, ℕ, zero, suc, ◌<◌, ◌++◌, List, [], Option, Result, Ok, ap, arith, length, map, refl, subst, sym}
+use Rattle.std.specs.List.{All}
 use Rattle.std.proofs.lemmas.List.{length-map}
 use Rattle.sp_core.specs.Parts.{Parts}
 use Rattle.sp_sequent.specs.declared.formula.Formula.{Formula as Made}
@@ -16,8 +17,10 @@ use Rattle.sp_frame.specs.Uncertified.{Lines, spells}
 use Rattle.sp_report.specs.Headings.{interface_line}
 use Rattle.sp_formula_list.specs.Listed.{FormulasListed}
 use Rattle.sp_deciding.specs.Decided.{AllDecided, open_count}
+use Rattle.sp_deciding.specs.Laws.{IsClosed}
 use Rattle.sp_deciding.specs.Verdicts.{all_lines, last_line, verdict_by}
 use Rattle.sp_deciding.specs.declared.deciding.Decision.{Decision}
+use Rattle.sp_deciding.proofs.Closed.{all_closed}
 use Rattle.sp_check_command.specs.Check.{CheckAnswered, check_answer}
 
 pub refuses : (k : ℕ) → 0 < k → verdict.Refused ≡ verdict_by k
@@ -52,3 +55,9 @@ answered owner p fs gs hs ds es r given lent shown listed decided told =
     let lines = subst (λ xs. Does (Printing spells (Gives (check_answer p (map formula_as xs) ds))) r) lent (subst (λ xs. Does (Printing spells (Gives (check_answer p (map formula_as hs) xs))) r) shown told) in
     prints_after spells (FormulasListed owner p) (λ os. Then (AllDecided owner p 1 os) (λ ds. Gives (check_answer p os ds))) (map formula_as fs) r listed
     (prints_after spells (AllDecided owner p 1 (map formula_as fs)) (λ ds. Gives (check_answer p (map formula_as fs) ds)) ds r all lines)
+
+-- where none is open, no formula has an open branch
+pub closed : (owner : Option (List ℕ)) (p : Parts) (fs gs hs : List Made) (ds es : List Decision) → gs ≡ fs → hs ≡ fs → es ≡ ds → AllDecided owner p 1 (map formula_as gs) (Ok ds)
+    → open_count es ≡ 0 → All (IsClosed p) (map formula_as hs)
+closed owner p fs gs hs ds es given lent shown all none =
+    subst (λ xs. All (IsClosed p) (map formula_as xs)) (given ∙ sym lent) (all_closed owner p 1 (map formula_as gs) ds all (sym (ap open_count shown) ∙ none))

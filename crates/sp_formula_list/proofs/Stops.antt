@@ -5,6 +5,6 @@ use Rattle.sp_frame.specs.declared.refusal.Stop.{Stop}
 use Rattle.sp_frame.specs.declared.refusal.Stop.TheVariants as stop
 use Rattle.sp_frame.specs.Steps.{Does, StopsFor}
 
-pub stops : {T : Type 0} (r : Refusal) (s : Stop) → StopsFor r s → Does {T = T} (λ out. out ≡ Err r) (Err s)
-stops r (stop.Refused q) h = ap Err h
-stops r stop.Memory h = tt
+pub stops : (T : Type 0) (r : Refusal) (s : Stop) → StopsFor r s → Does {T = T} (λ out. out ≡ Err r) (Err s)
+stops T r (stop.Refused q) h = ap Err h
+stops T r stop.Memory h = tt

@@ -2,7 +2,7 @@
 #![tactic(auto)]
 
 mod laws;
-mod listed;
+mod listing;
 
 pub use laws::{listed_law, listing_law};
-pub use listed::{exceeded, listed, refused};
+pub use listing::{exceeded, listed, refused};

@@ -6,23 +6,27 @@ use Rattle.sp_text.specs.declared.fault.TextFault.TheVariants as fault
 use Rattle.sp_text.specs.declared.token.Token.{Token}
 use Rattle.sp_lexer.proofs.Unique.{no_fault_with_tokens, same_first_fault, same_tokens}
 use Rattle.sp_grammar.specs.Lang.{Lang}
-use Rattle.sp_grammar.specs.Texts.{AnswersCounted, AnswersText, IsRead, RefusesCounted}
+use Rattle.sp_grammar.specs.Texts.{AnswersCounted, IsRead, RefusesCounted}
 use Rattle.sp_grammar.specs.Within.{Limits}
 use Rattle.sp_grammar.proofs.OneAnswer.{answered_once, refused_once, unread}
 use Rattle.sp_forms.proofs.Whole.{one_tree, one_tree_in}
 use Rattle.sp_cursor.specs.Lines.{formal_line, names_line, type_line}
 use Rattle.sp_parser.specs.Modules.{assertions_line, bound_line, definition_line, definitions_line, effects_line, exception_line, exceptions_line, external_line, externals_line, forall_effect_line, formals_line, function_line, functions_line, header_line, if_effect_line, marks_line, maybe_exceptions, members_line, module_grammar, module_line, named_line, nested_effects, operation_body, operation_line, parameter_line, parameters_line, plain_line, returned_line, some_formals, statement_line, type_decl_line, types_line, value_body, value_function_line, value_operation_line}
-use Rattle.sp_interface.specs.Counts.{over_modules}
+use Rattle.sp_interface.specs.Counts.{over_interfaces, over_modules}
 use Rattle.sp_interface.specs.Equations.{equation_line, formal_names_line}
+use Rattle.sp_interface.specs.Hierarchies.{hierarchy_grammar, hierarchy_line}
+use Rattle.sp_interface.specs.Hierarchies as rows
 use Rattle.sp_interface.specs.Interfaces.{interface_grammar, interface_line, level_line, levels_line, modules_line, sample_line}
 use Rattle.sp_interface.specs.Lattices.{above_line, all_above_line, categories_line, chain_line, declared_order_line, lattice_line, order_line, orders_line, product_line}
+use Rattle.sp_interface.specs.Mappings.{mapping_grammar, mapping_line, type_pair_line}
+use Rattle.sp_interface.specs.Mappings as sections
 use Rattle.sp_instance_text.specs.Instances.{instance_grammar, instance_line, other_line, population_line, populations_line, row_line, rows_line, table_line, tables_line}
 use Rattle.sp_instance_text.specs.Instances as texts
 use Rattle.sp_instance_text.specs.Scripts.{call_line, calls_line, script_grammar, script_line}
 use Rattle.sp_instance_text.specs.Values.{constant_line, node_line, number_line, some_values, value_line, values_line}
 use Rattle.sp_frame.specs.Laws.{IsOnce}
 use Rattle.sp_frame.proofs.Lawful.{gives_once, then_once}
-use Rattle.sp_sorts.specs.Sorts.{instances, interfaces, modules, scripts}
+use Rattle.sp_sorts.specs.Sorts.{hierarchies, instances, interfaces, mappings, modules, scripts}
 use Rattle.sp_sorts.specs.Texts.{Answered, Grammar, Lexed, Read}
 use Rattle.sp_sorts.proofs.Definite.{answered_by}
 
@@ -85,3 +89,11 @@ instance_once = read_once instances (λ ts end. answered_by _ (answered_once (in
 pub script_once : (text : List ℕ) → IsOnce (Read scripts text)
 unfolding call_line calls_line script_grammar constant_line node_line number_line some_values value_line values_line
 script_once = read_once scripts (λ ts end. answered_by _ (answered_once (script_line ts) ts end (one_tree script_grammar refl ts)))
+
+pub hierarchy_once : (text : List ℕ) → IsOnce (Read hierarchies text)
+unfolding rows.row_line rows.rows_line hierarchy_grammar
+hierarchy_once = read_once hierarchies (λ ts end. answered_by _ (counted_once (hierarchy_line ts) ts end (one_tree hierarchy_grammar refl ts) over_interfaces))
+
+pub mapping_once : (text : List ℕ) → IsOnce (Read mappings text)
+unfolding names_line equation_line formal_names_line type_pair_line sections.types_line sections.parameters_line sections.functions_line mapping_grammar
+mapping_once = read_once mappings (λ ts end. answered_by _ (answered_once (mapping_line ts) ts end (one_tree mapping_grammar refl ts)))

@@ -1,9 +1,9 @@
 -- The names in a text that was read are UTF-8, so that they can be names of files.
-use Rattle.std.proofs.Common.{◌≡◌, ◌∙◌, ℕ, zero, suc, ◌+◌, ◌-◌, ◌<◌, List, [], ◌∷◌, Option, None, Some, Result, Ok, Err, IsTrue, ap, arith, drop, filter_map, get_or, get_or-drop, get_or-take, length, length-take, slice_get, slice_range, sym, subst}
+use Rattle.std.proofs.Common.{◌≡◌, ◌∙◌, ℕ, zero, suc, ◌+◌, ◌-◌, ◌<◌, List, [], ◌∷◌, Some, Result, Ok, Err, IsTrue, ap, arith, drop, filter_map, get_or, get_or-drop, get_or-take, length, length-take, slice_get, slice_range, sym, subst}
 use Rattle.std.specs.List.{All, cons_option}
 use Rattle.std.specs.Str.{IsAscii, IsUtf8}
 use Rattle.std.proofs.lemmas.Bool.Decides.{nat_tests}
-use Rattle.std.proofs.lemmas.List.Elements.{All-nil, All-cons}
+use Rattle.std.proofs.lemmas.List.Elements.{All-cons, All-head, All-nil, All-tail}
 use Rattle.std.proofs.lemmas.Str.{IsUtf8-from_ascii}
 use Rattle.std.proofs.lemmas.Str.Ascii.{IsAscii-from_reads}
 use Rattle.sp_text.specs.declared.fault.Span.{Span}
@@ -13,6 +13,7 @@ use Rattle.sp_text.specs.declared.token.TokenKind.{TokenKind}
 use Rattle.sp_text.specs.declared.token.TokenKind.TheVariants as kind
 use Rattle.sp_lexer.specs.Pieces.{Piece, blank, comment, keyword, name, number, symbol, IsPiece, IsRun, word_byte}
 use Rattle.sp_lexer.specs.Tokens.{IsDivision, IsTokens, Placed, token_of}
+use Rattle.sp_tree.specs.declared.interface.HierarchyTree.{HierarchyTree}
 use Rattle.sp_tree.specs.declared.interface.InterfaceTree.{InterfaceTree}
 use Rattle.sp_tree.specs.declared.names.Ident.{Ident}
 use Rattle.sp_grammar.specs.Codes.{comma}
@@ -22,8 +23,10 @@ use Rattle.sp_expression.specs.Grammar as expressions
 use Rattle.sp_forms.specs.Grammars.{behind, meaning, no_form}
 use Rattle.sp_forms.specs.Grammars as form
 use Rattle.sp_cursor.specs.Lines.{names_line}
+use Rattle.sp_interface.specs.Counts.{mentioned}
+use Rattle.sp_interface.specs.Hierarchies.{hierarchy_grammar, hierarchy_line, row_line, rows_line}
 use Rattle.sp_interface.specs.Interfaces.{interface_grammar, interface_line, modules_line, sample_line}
-use Rattle.sp_sorts.specs.Sorts.{interfaces}
+use Rattle.sp_sorts.specs.Sorts.{hierarchies, interfaces}
 use Rattle.sp_sorts.specs.Texts.{IsTree}
 use Rattle.sp_sorts.specs.declared.reading.Reading.{Reading}
 
@@ -105,7 +108,7 @@ module _ (ts : List Token) (names : HaveTextNames ts) (t : InterfaceTree) where
       (subst (λ (y : Ident). IsUtf8 y.name) (sym s.1) (ident_text ts names most.height s.0.1.0 s.2.0 s.2.2.0 s.2.2.1))
 
 -- the tree of an answer, where there is one
-abbrev tree_or : InterfaceTree → Result (Reading InterfaceTree) TextFault → InterfaceTree
+abbrev tree_or : {T : Type 0} → T → Result (Reading T) TextFault → T
 tree_or t (Ok x) = x.tree
 tree_or t (Err f) = t
 
@@ -123,3 +126,45 @@ module _ (t : InterfaceTree) where
   sample_name (text, (Ok tokens, lexed, (Ok u, read, e))) =
       let same : u ≡ t = ap (tree_or t) (sym e) in
       subst (λ (v : InterfaceTree). IsUtf8 v.sample.name) same (sample_text tokens (names_text text tokens lexed) u read.0)
+
+-- ---- the names of a hierarchy
+
+-- the three names of a row are UTF-8
+abbrev pub IsRowText : Ident × Ident × Ident → Type 0
+IsRowText row = IsUtf8 row.0.name × IsUtf8 row.1.name × IsUtf8 row.2.name
+
+module _ (ts : List Token) (names : HaveTextNames ts) (b : ℕ) where
+  row_text : (row : Ident × Ident × Ident) (i j : ℕ) → (meaning row_line no_form ts b).whole row i j → IsRowText row
+  unfolding row_line
+  row_text row i j (p, e, (k, upper, (l, over, (m, lower, (n, by, (q, mapping, end)))))) =
+      subst IsRowText (sym e) (ident_text ts names b p.0 i k upper, ident_text ts names b p.1.1.0 l m lower, ident_text ts names b p.1.1.1.1.0 n q mapping)
+
+  rows_text : (rows : List (Ident × Ident × Ident)) (i j : ℕ) → all_whole (meaning row_line no_form ts b) rows i j → All IsRowText rows
+  rows_text [] i j h = All-nil IsRowText
+  rows_text (row ∷ rows) i j (k, one, rest) = All-cons IsRowText row rows (row_text row i k one) (rows_text rows k j rest)
+
+module _ (ts : List Token) (names : HaveTextNames ts) (t : HierarchyTree) where
+  hierarchy_text : IsRead (hierarchy_line ts) ts t → All IsRowText t.rows
+  unfolding hierarchy_grammar rows_line
+  hierarchy_text (p, e, (k, word, (l, own, (m, rows, end)))) =
+      subst (λ (u : HierarchyTree). All IsRowText u.rows) (sym e) (rows_text ts names most.height p.1.1.0 l m rows)
+
+module _ (t : HierarchyTree) where
+  -- the names of the interfaces and the mapping in each row
+  pub row_names : IsTree hierarchies t → All IsRowText t.rows
+  row_names (text, (Err f, lexed, e)) = absurd cc
+  row_names (text, (Ok tokens, lexed, (Err f, read, e))) = absurd cc
+  row_names (text, (Ok tokens, lexed, (Ok u, read, e))) =
+      let same : u ≡ t = ap (tree_or t) (sym e) in
+      subst (λ (v : HierarchyTree). All IsRowText v.rows) same (hierarchy_text tokens (names_text text tokens lexed) u read.0)
+
+mentioned_text : (rows : List (Ident × Ident × Ident)) → All IsRowText rows → All (λ (x : Ident). IsUtf8 x.name) (mentioned rows)
+mentioned_text [] h = All-nil (λ (y : Ident). IsUtf8 y.name)
+mentioned_text (row ∷ rows) h =
+    let own = All-head IsRowText row rows h in
+    All-cons (λ (y : Ident). IsUtf8 y.name) row.0 (row.1 ∷ mentioned rows) own.0
+    (All-cons (λ (y : Ident). IsUtf8 y.name) row.1 (mentioned rows) own.1 (mentioned_text rows (All-tail IsRowText row rows h)))
+
+-- the names of the interfaces, in the order in which they are mentioned
+pub mentioned_names : (t : HierarchyTree) → IsTree hierarchies t → All (λ (x : Ident). IsUtf8 x.name) (mentioned t.rows)
+mentioned_names t h = mentioned_text t.rows (row_names t h)

@@ -1,3 +1,4 @@
 pub mod Texts
 pub mod Sorts
 pub mod Levels
+pub mod Certificates

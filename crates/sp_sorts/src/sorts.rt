@@ -1,13 +1,13 @@
 //! The grammars of texts.
 
-ghost use Rattle.sp_sorts.specs.Sorts.{instances, interfaces, modules, scripts};
+ghost use Rattle.sp_sorts.specs.Sorts.{hierarchies, instances, interfaces, mappings, modules, scripts};
 
 use crate::reading::Parse;
 use sp_instance_text::{parse_instance, parse_script};
-use sp_interface::parse_interface;
+use sp_interface::{parse_hierarchy, parse_interface, parse_mapping};
 use sp_parser::parse_module;
 use sp_text::{TextFault, Token};
-use sp_tree::{InstanceTree, InterfaceTree, Module, ScriptTree};
+use sp_tree::{HierarchyTree, InstanceTree, InterfaceTree, MappingTree, Module, ScriptTree};
 use std::alloc::Global;
 
 impl Parse for InterfaceTree {
@@ -39,5 +39,21 @@ impl Parse for ScriptTree {
 
     fn parse(alloc: Global, tokens: &[Token], end: u32) -> Result<ScriptTree, TextFault> {
         parse_script(alloc, tokens, end)
+    }
+}
+
+impl Parse for HierarchyTree {
+    ghost grammar = { hierarchies };
+
+    fn parse(alloc: Global, tokens: &[Token], end: u32) -> Result<HierarchyTree, TextFault> {
+        parse_hierarchy(alloc, tokens, end)
+    }
+}
+
+impl Parse for MappingTree {
+    ghost grammar = { mappings };
+
+    fn parse(alloc: Global, tokens: &[Token], end: u32) -> Result<MappingTree, TextFault> {
+        parse_mapping(alloc, tokens, end)
     }
 }

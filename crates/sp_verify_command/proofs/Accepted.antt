@@ -1,7 +1,6 @@
 -- What follows where `verify` and `migrate` accept, and what `verify` accepts.
 use Rattle.std.proofs.Common.{◌≡◌, ◌∙◌, ℕ, List, None, Ok, ap, refl, subst, sym}
 use Rattle.std.specs.List.{All}
-use Rattle.sp_outside.specs.Files.{Files}
 use Rattle.sp_core.specs.Parts.{Parts}
 use Rattle.sp_cert.specs.Spelling.{spelling}
 use Rattle.sp_cert.specs.Tree.{File}

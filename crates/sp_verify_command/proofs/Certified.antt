@@ -1,5 +1,5 @@
 -- A file is accepted where it has one certificate for each formula, each of which checks; then no formula has an open branch.
-use Rattle.std.proofs.Common.{◌≡◌, ◌∙◌, ℕ, zero, suc, ◌+◌, ◌-◌, List, [], ◌∷◌, Option, None, Some, ap, arith, length, refl, sym}
+use Rattle.std.proofs.Common.{◌≡◌, ◌∙◌, ℕ, zero, suc, ◌+◌, List, [], ◌∷◌, Option, None, Some, ap, arith, refl}
 use Rattle.std.specs.List.{All}
 use Rattle.std.proofs.lemmas.List.Elements.{All-cons, All-head, All-nil, All-tail}
 use Rattle.sp_core.specs.Parts.{Parts}
@@ -18,7 +18,7 @@ use Rattle.sp_verdicts.specs.Laws.{CertifiedAreClosed}
 use Rattle.sp_deciding.specs.Laws.{IsClosed}
 use Rattle.sp_frame.specs.declared.refusal.Verdict.TheVariants as verdict
 use Rattle.sp_verify_command.specs.declared.judging.Judgement.{Judgement}
-use Rattle.sp_verify_command.specs.Judged.{extra_count, file_verdict, judged, judged_by, judgements, refused_count, verdict_by}
+use Rattle.sp_verify_command.specs.Judged.{extra_count, file_verdict, judged_by, judgements, refused_count, verdict_by}
 use Rattle.sp_verify_command.specs.Laws.{AreCertified}
 use Rattle.sp_verify_command.specs.Migrate.{lifted_trees}
 

@@ -1,5 +1,5 @@
 -- From what the work comes to, what was read, judged and listed; and back.
-use Rattle.std.proofs.Common.{◌≡◌, ◌∙◌, ℕ, ◌≤◌, true, nat_le, if◌then◌else◌, List, Option, None, Some, Result, Ok, Err, ap, arith, length, refl, subst, sym}
+use Rattle.std.proofs.Common.{◌≡◌, ◌∙◌, ℕ, ◌≤◌, true, nat_le, if◌then◌else◌, List, None, Some, Result, Ok, Err, ap, arith, length, refl, subst, sym}
 use Rattle.std.proofs.lemmas.Bool.Decides.{nat_tests}
 use Rattle.sp_text.specs.declared.fault.TextFault.{TextFault}
 use Rattle.sp_text.specs.declared.fault.TextFault.TheVariants as fault
@@ -12,8 +12,8 @@ use Rattle.sp_cert.specs.Within.{IsFile}
 use Rattle.sp_formulas.specs.Formulas.{Formula}
 use Rattle.sp_frame.specs.declared.refusal.Refusal.{Refusal}
 use Rattle.sp_frame.specs.declared.refusal.Refusal.TheVariants as refusal
-use Rattle.sp_frame.specs.Files.{FileRead, Loaded, text_found, text_within}
-use Rattle.sp_frame.specs.Steps.{Gives, IsNamed, Judged, Onward, Step, Then}
+use Rattle.sp_frame.specs.Files.{FileRead, text_found, text_within}
+use Rattle.sp_frame.specs.Steps.{Gives, IsNamed, Onward, Step, Then}
 use Rattle.sp_frame.specs.Uncertified.{Lines}
 use Rattle.sp_formula_list.specs.Listed.{FormulasListed}
 use Rattle.sp_sorts.specs.Certificates.{CertificatesRead, certificates}

@@ -1,5 +1,5 @@
 -- What is printed of judgements, and of migrated files, as the answer.
-use Rattle.std.proofs.Common.{◌≡◌, ◌∙◌, ℕ, zero, suc, ◌++◌, Bool, true, false, List, [], Option, None, Result, Ok, ap, length, map, refl, subst, sym}
+use Rattle.std.proofs.Common.{◌≡◌, ◌∙◌, ℕ, ◌++◌, List, [], None, Result, Ok, ap, length, map, refl, subst, sym}
 use Rattle.std.proofs.lemmas.List.{length-map}
 use Rattle.sp_core.specs.Parts.{Parts}
 use Rattle.sp_sequent.specs.declared.formula.Formula.{Formula as Made}

@@ -2,7 +2,7 @@ use Rattle.std.proofs.Common.{[], ◌∷◌, ◌∙◌, ap, arith, length, map}
 use Rattle.std.proofs.lemmas.List.{map-append}
 use Rattle.sp_cert.specs.Tree.{tree, trees}
 use Rattle.sp_formulas.specs.Typed.{IsTypedFormula}
-use Rattle.sp_verify_command.proofs.Progress.{all_lifted, next_lifted, no_more, plain_at, typed_at}
+use Rattle.sp_verify_command.proofs.Progress.{all_lifted, next_lifted, plain_at, typed_at}
 use Rattle.sp_verify_command.proofs.lifting.lift_all.Goals as goal
 
 pub lift-requires-clause-typed : goal.lift-requires-clause-typed

@@ -1,6 +1,7 @@
 //! Mappings between two specifications, judged and made of their trees.
 #![tactic(auto)]
 
+mod judging;
 mod mapping;
 
 pub use mapping::elaborate_mapping;

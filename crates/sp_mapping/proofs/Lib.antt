@@ -1,0 +1,2 @@
+mod Cores
+mod Missing

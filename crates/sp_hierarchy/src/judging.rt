@@ -28,11 +28,7 @@ pub struct Hierarchy {
 /// # Errors
 /// `Refused` with the first of what they break, and `Memory`.
 #[tactic(auto, using(sp_frame::proofs::Connective::does_after, sp_frame::proofs::Connective::does_refused))]
-pub fn judge_hierarchy(
-    alloc: Global,
-    file: &str,
-    texts: &HierarchyTexts,
-) -> Result<Hierarchy, Stop>
+pub fn judge_hierarchy(alloc: Global, file: &str, texts: &HierarchyTexts) -> Result<Hierarchy, Stop>
     requires { All IsTextName texts.now.interfaces }
     ensures does { Does (HierarchyJudged file.now texts.now) result }
     ensures mapped { IfOk result (λ h. All (IsMappedTo h.members) h.mappings) }

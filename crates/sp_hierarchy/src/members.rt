@@ -26,10 +26,7 @@ pub struct Member {
 ///
 /// # Errors
 /// `Refused` with the first of what they break, and `Memory`.
-pub fn judge_members(
-    alloc: Global,
-    interfaces: &[NamedSystem],
-) -> Result<Sequence<Member>, Stop>
+pub fn judge_members(alloc: Global, interfaces: &[NamedSystem]) -> Result<Sequence<Member>, Stop>
     requires { All IsTextName interfaces.now }
     ensures does { Does (MembersJudged interfaces.now) result }
     ensures names { IfOk result (All HasNames) }

@@ -102,11 +102,7 @@ fn load_systems<L: Library>(
 
 // The texts of the interface of this name, with the name.
 #[tactic(auto, using(sp_frame::proofs::Connective::loads_refused, sp_frame::proofs::Connective::loads_gives))]
-fn load_named<L: Library>(
-    alloc: Global,
-    lib: &mut L,
-    name: &Name,
-) -> Result<NamedSystem, LoadStop>
+fn load_named<L: Library>(alloc: Global, lib: &mut L, name: &Name) -> Result<NamedSystem, LoadStop>
     requires { IsUtf8 name.now }
     ensures loads { Loads L.told L.faults lib.old lib.new (NamedRead name.now) result }
     ensures named { IfOk result IsTextName }

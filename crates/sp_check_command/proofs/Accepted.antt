@@ -38,7 +38,7 @@ use Rattle.sp_deciding.specs.Verdicts.{verdict_by}
 use Rattle.sp_deciding.specs.declared.deciding.Decision.{Decision}
 use Rattle.sp_deciding.proofs.Closed.{all_closed}
 use Rattle.sp_check_command.specs.Check.{CheckAnswered, CheckDone, CheckWork, check_answer}
-use Rattle.sp_check_command.specs.Secure.{AcceptedAreSecure, AnsweredAreProved, IsProved, IsSecureInterface}
+use Rattle.sp_check_command.specs.Secure.{AcceptedAreSecure, AnsweredAreProved, ClosedAreSecure, IsProved, IsSecureInterface}
 
 module _ (p : Parts) where
   none_open : (n : ℕ) → verdict_by n ≡ verdict.Ok → n ≡ 0
@@ -82,7 +82,7 @@ module _ (p : Parts) where
 -- ---- the texts
 
 -- the trees stand for one specification, and the sample is an admissible instance
-record IsJudged (x : System) (p : Parts) : Type 0 where
+pub record IsJudged (x : System) (p : Parts) : Type 0 where
   pub meant : IsOnlySpec x.interface x.modules p
   pub unbroken : instance_broken p x.sample ≡ []
   pub admissible : IsAdmissible p (filling_of (instance_of p x.sample))
@@ -93,7 +93,7 @@ module _ (file : List ℕ) (x : System) where
   never_faulty name (fault.Limit l) e h = absurd cc
   never_faulty name fault.Memory e h = h
 
-  meant_by : (e : Elaborated) (answer : Result (Parts × Scopes) SpecFault) → Elaborates x.interface x.modules answer → IsFiled file x.interface answer (Ok e) → IsOnlySpec x.interface x.modules e.spec
+  pub meant_by : (e : Elaborated) (answer : Result (Parts × Scopes) SpecFault) → Elaborates x.interface x.modules answer → IsFiled file x.interface answer (Ok e) → IsOnlySpec x.interface x.modules e.spec
   meant_by e (Ok r) h f =
       let same : e ≡ record { spec = r.0; scopes = r.1 } = cc in
       subst (IsOnlySpec x.interface x.modules) (sym (ap (λ (y : Elaborated). y.spec) same)) h.judges.1.spec
@@ -126,7 +126,7 @@ module _ (interface : List ℕ) (x : System) where
   sample_by p (Err r) out e = absurd cc
   sample_by p (Ok u) out e = instance_by p (sample_file x) x.sample out e.0 e.1 e.2
 
-  judged_by : (e : Elaborated) (first : Result Elaborated Refusal) → InterfaceJudged interface x.interface x.modules first
+  pub judged_by : (e : Elaborated) (first : Result Elaborated Refusal) → InterfaceJudged interface x.interface x.modules first
       → Onward (λ d. λ last. (second : Result InstanceParts Refusal) × SampleJudged d.spec x second × Onward (λ i. λ end. end ≡ Ok d) second last) first (Ok e) → IsJudged x e.spec
   judged_by e (Err r) j h = absurd cc
   judged_by e (Ok d) j h = by h.0 h.1 h.2
@@ -146,21 +146,27 @@ module _ (closed_hold : ClosedClaimsHold) (unwinding : UnwindingLaw) (typed : Fo
   pub answered_proved : AnsweredAreProved
   answered_proved owner p bytes wf h = by_formulas p closed_hold wf unwinding typed owner bytes h.0 h.1 h.2
 
+  -- an interface whose flow formulas have no open branch
+  pub closed_secure : ClosedAreSecure
+  closed_secure files interface x e read j closed =
+      let judged = judged_by interface x e j.0 j.1 j.2 in
+      record {
+        system = x;
+        spec = e.spec;
+        read = read;
+        meant = judged.meant;
+        sample = made e.spec judged.meant.well_formed x.sample judged.unbroken;
+        admissible = judged.admissible;
+        secure = (proved e.spec closed_hold judged.meant.well_formed unwinding typed closed).secure;
+      }
+
   module _ (files : Files) (interface bytes : List ℕ) where
     by_spec : (x : System) → SystemRead interface files (Ok x) → (first : Result Elaborated Refusal) → SystemJudged interface x first
         → Onward (λ e. CheckAnswered None e.spec) first (Ok (printed bytes verdict.Ok)) → IsSecureInterface interface files
     by_spec x read (Err r) j h = absurd cc
     by_spec x read (Ok e) j h =
         let judged = judged_by interface x e j.0 j.1 j.2 in
-        record {
-          system = x;
-          spec = e.spec;
-          read = read;
-          meant = judged.meant;
-          sample = made e.spec judged.meant.well_formed x.sample judged.unbroken;
-          admissible = judged.admissible;
-          secure = (by_formulas e.spec closed_hold judged.meant.well_formed unwinding typed None bytes h.0 h.1 h.2).secure;
-        }
+        closed_secure files interface x e read j (by_formulas e.spec closed_hold judged.meant.well_formed unwinding typed None bytes h.0 h.1 h.2).closed
 
     by_system : (first : Result System Refusal) → SystemRead interface files first → Onward (CheckWork interface) first (Ok (printed bytes verdict.Ok)) → IsSecureInterface interface files
     by_system (Err r) read h = absurd cc

@@ -1,3 +1,3 @@
 pub mod Lawful
-mod Accepted
-mod Printing
+pub mod Accepted
+pub mod Printing

@@ -1,5 +1,5 @@
 -- What is printed of decisions, as the answer.
-use Rattle.std.proofs.Common.{◌≡◌, ◌∙◌, ℕ, zero, suc, ◌<◌, ◌++◌, List, [], Option, Result, Ok, ap, arith, length, map, refl, subst, sym}
+use Rattle.std.proofs.Common.{◌≡◌, ◌∙◌, ℕ, zero, suc, ◌<◌, ◌++◌, List, [], Option, Result, Ok, Err, ap, arith, length, map, refl, subst, sym}
 use Rattle.std.specs.List.{All}
 use Rattle.std.proofs.lemmas.List.{length-map}
 use Rattle.sp_core.specs.Parts.{Parts}
@@ -12,7 +12,7 @@ use Rattle.sp_frame.specs.declared.refusal.Verdict.{Verdict}
 use Rattle.sp_frame.specs.declared.refusal.Verdict.TheVariants as verdict
 use Rattle.sp_frame.specs.Endings.{Printing, Shows, verdict_of}
 use Rattle.sp_frame.specs.Steps.{Does, Gives, Then}
-use Rattle.sp_frame.proofs.Connective.{prints_after}
+use Rattle.sp_frame.proofs.Connective.{prints_after, prints_refused}
 use Rattle.sp_frame.specs.Uncertified.{Lines, spells}
 use Rattle.sp_report.specs.Headings.{interface_line}
 use Rattle.sp_formula_list.specs.Listed.{FormulasListed}
@@ -61,3 +61,10 @@ pub closed : (owner : Option (List ℕ)) (p : Parts) (fs gs hs : List Made) (ds 
     → open_count es ≡ 0 → All (IsClosed p) (map formula_as hs)
 closed owner p fs gs hs ds es given lent shown all none =
     subst (λ xs. All (IsClosed p) (map formula_as xs)) (given ∙ sym lent) (all_closed owner p 1 (map formula_as gs) ds all (sym (ap open_count shown) ∙ none))
+
+-- a formula isn't decided
+pub undecided : (owner : Option (List ℕ)) (p : Parts) (fs gs : List Made) (s : Stop) → gs ≡ fs → FormulasListed owner p (Ok (map formula_as fs)) → Does (AllDecided owner p 1 (map formula_as gs)) (Err s)
+    → Does (Printing spells (CheckAnswered owner p)) (Err s)
+undecided owner p fs gs s given listed decided =
+    prints_after spells (FormulasListed owner p) (λ os. Then (AllDecided owner p 1 os) (λ ds. Gives (check_answer p os ds))) (map formula_as fs) (Err s) listed
+    (prints_refused spells (AllDecided owner p 1 (map formula_as fs)) (λ ds. Gives (check_answer p (map formula_as fs) ds)) s (subst (λ xs. Does (AllDecided owner p 1 (map formula_as xs)) (Err s)) given decided))

@@ -12,7 +12,8 @@ use Rattle.sp_instance.specs.Instances.{instance_of}
 use Rattle.sp_frame.specs.declared.refusal.Verdict.TheVariants as verdict
 use Rattle.sp_frame.specs.Endings.{printed}
 use Rattle.sp_system.specs.Interfaces.{IsOnlySpec}
-use Rattle.sp_system.specs.System.{SystemRead}
+use Rattle.sp_system.specs.System.{SystemJudged, SystemRead}
+use Rattle.sp_system.specs.declared.interface.Elaborated.{Elaborated}
 use Rattle.sp_system.specs.declared.system.System.{System}
 use Rattle.sp_deciding.specs.Laws.{IsClosed}
 use Rattle.sp_check_command.specs.Check.{CheckAnswered, CheckDone}
@@ -37,6 +38,12 @@ pub record IsSecureInterface (interface : List ℕ) (files : Files) : Type 0 whe
   pub sample : IsInstanceOf spec (instance_of spec system.sample)
   pub admissible : IsAdmissible spec (filling_of (instance_of spec system.sample))
   pub secure : IsSecure spec
+
+-- the law: where a system is read and judged, and no flow formula of its specification has an open branch, its interface is secure
+abbrev pub ClosedAreSecure : Type 0
+ClosedAreSecure =
+    (files : Files) (interface : List ℕ) (x : System) (e : Elaborated) → SystemRead interface files (Ok x) → SystemJudged interface x (Ok e) → All (IsClosed e.spec) (formulas e.spec)
+    → IsSecureInterface interface files
 
 -- the law: where the work comes to lines that accept, the interface is secure
 abbrev pub AcceptedAreSecure : Type 0

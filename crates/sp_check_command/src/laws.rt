@@ -5,7 +5,7 @@ ghost use Rattle.sp_outside.specs.Files.{Files};
 ghost use Rattle.sp_core.specs.Parts.{Parts};
 ghost use Rattle.sp_frame.specs.Laws.{IsLawful};
 ghost use Rattle.sp_check_command.specs.Check.{CheckAnswered, CheckDone};
-ghost use Rattle.sp_check_command.specs.Secure.{AcceptedAreSecure, AnsweredAreProved};
+ghost use Rattle.sp_check_command.specs.Secure.{AcceptedAreSecure, AnsweredAreProved, ClosedAreSecure};
 
 use sp_claims::closed_claims_hold;
 use sp_formula_laws::formulas_are_typed;
@@ -26,6 +26,16 @@ pub fn answered_law()
 /// nothing: its clause is the law.
 pub fn proved_law()
     ensures { AnsweredAreProved }
+{
+    closed_claims_hold();
+    unwinding_law();
+    formulas_are_typed();
+}
+
+/// Where a system is read and judged, and no flow formula of its specification has an open branch, its interface is secure.
+/// It does nothing: its clause is the law.
+pub fn secured_law()
+    ensures { ClosedAreSecure }
 {
     closed_claims_hold();
     unwinding_law();

@@ -5,4 +5,4 @@ mod check;
 mod laws;
 
 pub use check::{check_answered, check_command};
-pub use laws::{accepted_law, answered_law, check_law, proved_law};
+pub use laws::{accepted_law, answered_law, check_law, proved_law, secured_law};

@@ -20,13 +20,16 @@ use Rattle.sp_deciding.specs.declared.deciding.Decision.TheVariants as decision
 abbrev pub IsFirstBranch : Question → List Bool → Type 0
 IsFirstBranch q vs = (b : Branch) × IsFirstOpen q b × (b.values.items ≡ vs)
 
+-- no branch is open, or this is the first that is
+abbrev pub IsDecision : Question → Decision → Type 0
+IsDecision q decision.Proved = HasNoOpenBranch q
+IsDecision q (decision.Open vs) = IsFirstBranch q vs
+
 -- the interface or mapping whose formulas they are, where the work is on several
 module _ (owner : Option (List ℕ)) where
-  -- Formula number n is decided: no branch is open, or this is the first that is; or too many atoms are undetermined, and the
-  -- refusal tells how many.
+  -- formula number n is decided; or too many atoms are undetermined, and the refusal tells how many
   abbrev pub IsDecided : ℕ → Question → Step Decision
-  IsDecided n q (Ok decision.Proved) = HasNoOpenBranch q × LeavesFew q
-  IsDecided n q (Ok (decision.Open vs)) = IsFirstBranch q vs × LeavesFew q
+  IsDecided n q (Ok d) = IsDecision q d × LeavesFew q
   IsDecided n q (Err r) = (k : ℕ) × IsRefused q (TooManyAtoms k) × (r ≡ exceeded owner quantity.Atoms (work_place.Formula n) (Some k))
 
   abbrev pub FormulaDecided : Parts → ℕ → Formula → Step Decision

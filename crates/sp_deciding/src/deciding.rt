@@ -1,12 +1,14 @@
 //! Whether formulas are proved.
 
-ghost use Rattle.std.specs.Prelude.{◌≡◌, ◌<◌, ◌≤◌, length, map, option_copied};
+ghost use Rattle.std.specs.Prelude.{◌≡◌, ◌<◌, ◌≤◌, IfErr, IfOk, length, map, option_copied};
 ghost use Rattle.sp_text.specs.declared.limits.TheConstants.{MOST_FORMULAS};
 ghost use Rattle.sp_formulas.specs.Formulas.{formula_as};
 ghost use Rattle.sp_formulas.specs.Typed.{AreTypedFormulas, IsTypedFormula};
+ghost use Rattle.sp_prover.specs.Deciding.{IsRefused, LeavesFew};
+ghost use Rattle.sp_sequent.specs.Claims.{claim_of, question_of};
 ghost use Rattle.sp_frame.specs.Steps.{Does};
 ghost use Rattle.sp_deciding.specs.Decided as definitions;
-ghost use Rattle.sp_deciding.specs.Decided.{AllDecided, FormulaDecided};
+ghost use Rattle.sp_deciding.specs.Decided.{AllDecided, FormulaDecided, IsDecision};
 
 use either::Either;
 use sp_core::Spec;
@@ -27,9 +29,33 @@ pub enum Decision {
     Open(Sequence<bool>),
 }
 
-// Decides the formula of this number. A certificate is given up at once.
-#[tactic(auto, using(crate::proofs::Refusing::stops))]
+// Decides a formula. A certificate is given up at once.
 fn decided(
+    alloc: Global,
+    spec: &Spec,
+    pool: &mut Pool,
+    formula: &Formula,
+) -> Result<Decision, DecideFault>
+    requires two { length pool.old ≡ 2 }
+    requires typed { IsTypedFormula spec.now (formula_as formula.now) }
+    ensures decision { IfOk result (IsDecision (question_of spec.now (claim_of formula.now))) }
+    ensures few { IfOk result (λ _. LeavesFew (question_of spec.now (claim_of formula.now))) }
+    ensures refused { IfErr result (IsRefused (question_of spec.now (claim_of formula.now))) }
+    ensures pool { pool.new ≡ pool.old }
+{
+    match decide(alloc, spec, pool, formula) {
+        Ok(Either::Left(_)) => Ok(Decision::Proved),
+        Ok(Either::Right(branch)) => {
+            let Branch { values } = branch;
+            Ok(Decision::Open(Sequence::new(values)))
+        }
+        Err(fault) => Err(fault),
+    }
+}
+
+// Decides the formula of this number.
+#[tactic(auto, using(crate::proofs::Refusing::stops))]
+fn decided_at(
     alloc: Global,
     spec: &Spec,
     pool: &mut Pool,
@@ -42,12 +68,8 @@ fn decided(
     ensures does { Does (FormulaDecided (option_copied owner.entry) spec.now number (formula_as formula.now)) result }
     ensures pool { pool.new ≡ pool.old }
 {
-    match decide(alloc, spec, pool, formula) {
-        Ok(Either::Left(_)) => Ok(Decision::Proved),
-        Ok(Either::Right(branch)) => {
-            let Branch { values } = branch;
-            Ok(Decision::Open(Sequence::new(values)))
-        }
+    match decided(alloc, spec, pool, formula) {
+        Ok(decision) => Ok(decision),
         Err(DecideFault::TooManyAtoms(found)) => Err(exceeded(
             alloc,
             owner,
@@ -76,7 +98,7 @@ pub fn decide_all(
     let mut pool = Pool::new(alloc)?;
     let mut all = Vec::new(alloc);
     for (k, formula) in formulas.iter().enumerate() {
-        let decision = decided(alloc, spec, &mut pool, k as u32 + 1, formula, owner)?;
+        let decision = decided_at(alloc, spec, &mut pool, k as u32 + 1, formula, owner)?;
         all.push(decision)?;
     }
     Ok(Sequence::new(all))

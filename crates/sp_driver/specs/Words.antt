@@ -22,6 +22,8 @@ built (forms.verify interface certificates) = Some (verify interface certificate
 built (forms.migrate interface certificates) = Some (migrate interface certificates)
 built (forms.run interface instance script) = Some (run interface instance script)
 built (forms.compare interface instance script level) = Some (compare interface instance script level)
+built (forms.hierarchy whole) = None
+built (forms.sample size) = None
 
 -- the command that the words are, if any
 abbrev pub command_of : List (List ℕ) → Option Command

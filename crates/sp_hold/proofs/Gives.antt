@@ -20,6 +20,7 @@ use Rattle.sp_core.specs.Machine.{AreBindings, Machine, level_by, level_of, type
 use Rattle.sp_core.specs.Measures.{Nothing}
 use Rattle.sp_core.specs.Parts.{Parts, signature}
 use Rattle.sp_core.specs.Tree.{Tree, Trees, Const, Var, Not, Two, If, Param, Look, Every, New, none, more, tree}
+use Rattle.sp_core.specs.Typing.{HasType}
 use Rattle.sp_core.specs.Values.{Reads, Store, World, is_true, level_number, look, nothing, nth, two, value_of, values_of}
 use Rattle.sp_core.specs.WellFormed.{IsLevel, IsWellFormed}
 use Rattle.sp_core.proofs.Agree.{value_agrees}
@@ -36,7 +37,7 @@ use Rattle.sp_formulas.specs.References.{Reference, references, references_in}
 use Rattle.sp_hold.proofs.Scopes.{AreScoped, FitAll, Fits, IsScoped}
 use Rattle.sp_hold.proofs.Asserted.{asserted}
 use Rattle.sp_hold.proofs.Bridge.{below, belows, weaken}
-use Rattle.sp_hold.proofs.MoveLemmas.{fits_more, fits_put, value-put, value-settle}
+use Rattle.sp_hold.proofs.MoveLemmas.{fits, fits_more, fits_put, value-put, value-settle}
 use Rattle.sp_hold.proofs.ReferenceFits.{ReferenceFits, all_references_fit, references_fit}
 use Rattle.sp_hold.proofs.Scoped.{no_quantifier, scoped}
 
@@ -259,3 +260,13 @@ module _ (p : Parts) (fill : Filling) (wf : IsWellFormed p) (inst : IsInstance p
       → All (Fits (length x)) hyps → Fits (length x) o.upper → All (IsTrueOver m.world r n x) hyps → AreScoped (length x) ds → ReadUnder m s u x (level_number (value_of m.world r n x o.upper)) ds
   spot_read_all o hyps ds holds x typed le known fh fu held here =
       belows m.world r n (IsUnder m (level_number (value_of m.world r n x o.upper))) ds x here (each_reference o hyps (references_in ds) holds x typed le known fh fu held (all_references_fit ds (length x) here))
+
+  -- the same of a well-typed expression that stands alone, with nothing assumed before it
+  pub typed_reads : (o : Spot) (e : Tree) (t : Ty) → HasType (signature p) (types_of o.about.formals ++ o.bound) e t → HasType (signature p) (types_of o.about.formals ++ o.bound) o.upper ty.Level
+      → ((q : Formula) → Contains (reference_formulas p o [] (references e)) q → HoldsOver m s u (claim q))
+      → (x : List Value) → are_values m.world.sizes (types_of o.about.formals ++ o.bound) x ≡ true → o.known ≤ length x → AreKnown (drop o.known x) → ReadsUnder m s u x (level_number (value_of m.world r n x o.upper)) e
+  typed_reads o e t has level holds x typed le known =
+      let xs = types_of o.about.formals ++ o.bound in
+      let long : length x ≡ length xs = length_values m.world.sizes xs x typed in
+      spot_reads o [] e holds x typed le known (All-nil (Fits (length x))) (fits o.upper (length xs) (length x) (omega (arith, long)) (scoped (signature p) xs o.upper ty.Level level)) (All-nil (IsTrueOver m.world r n x))
+      (subst (λ k. IsScoped k e) (sym long) (scoped (signature p) xs e t has))

@@ -1,15 +1,19 @@
--- A clash is one the other way round.
-use Rattle.std.proofs.Common.{◌≡◌, ℕ, not, Bool, true, false, ltb, cond, refl, sym, ap, ◌∙◌, Some, None}
+-- A clash is one the other way round. Steps none of which gives a clash.
+use Rattle.std.proofs.Common.{◌≡◌, ℕ, suc, ◌<◌, not, Bool, true, false, ltb, cond, refl, sym, ap, ◌∙◌, Some, None, List, [], ◌∷◌, length, ⊎_elim, arith}
 use Rattle.sp_values.specs.declared.value.Value.{Value}
 use Rattle.sp_pool.specs.declared.node.Head.{Head}
 use Rattle.sp_pool.specs.declared.node.Head.TheVariants.{Const}
 use Rattle.sp_rules.specs.Terms.{Terms, count, node_at}
+use Rattle.sp_rules.specs.Facts.{is_fact}
+use Rattle.sp_rules.specs.declared.fact.Fact.{Fact}
 use Rattle.sp_rules.specs.declared.fact.Fact.TheVariants.{Eq}
+use Rattle.sp_rules.specs.declared.fact.Step.{Step}
+use Rattle.sp_saturate.specs.Steps.{on, step_at}
 use Rattle.sp_saturate.specs.Front.{turned}
 use Rattle.sp_saturate.proofs.Parts.{no_step}
 use Rattle.sp_values.specs.Identity.{same_value, same_value-Decides}
 use Rattle.sp_rules.specs.Clash.{are_apart, is_clash}
-use Rattle.sp_rules.proofs.FactLemmas.{both_hold, both_true}
+use Rattle.sp_rules.proofs.FactLemmas.{both_hold, both_true, is_fact-true, one_holds}
 
 same_tests : (x y : Bool) → (x ≡ true → y ≡ true) → (y ≡ true → x ≡ true) → x ≡ y
 same_tests true y f g = sym (f refl)
@@ -36,3 +40,11 @@ clash_turned ts i j e =
 -- an equality that is a clash is turned
 pub turned_some : {P : Type 0} (ts : Terms) (i j : ℕ) → is_clash ts (Eq i j) ≡ true → turned ts (Eq i j) ≡ no_step → P
 turned_some ts i j e n = absurd (cc (sym (ap (λ b. cond b (Some (record { fact = Eq j i; rule = 2; p = 0; q = 0 })) None) (clash_turned ts i j e)) ∙ n))
+
+-- where no step gives a clash, none of their facts is one
+pub calm_all : (ts : Terms) (steps : List Step) → ((m : ℕ) → m < length steps → is_clash ts (step_at steps m).fact ≡ false) → (f : Fact) → on steps f ≡ true → is_clash ts f ≡ false
+unfolding on
+calm_all ts [] calm f e = absurd (cc)
+calm_all ts (x ∷ xs) calm f e =
+    ⊎_elim (λ h. ap (λ g. is_clash ts g) (sym (is_fact-true x.fact f h)) ∙ calm 0 (omega arith)) (λ h. calm_all ts xs (λ m l. calm (suc m) (omega arith)) f h)
+    (one_holds (is_fact x.fact f) (on xs f) e)

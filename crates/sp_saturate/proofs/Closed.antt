@@ -17,7 +17,7 @@ use Rattle.sp_rules.specs.declared.fact.Rule.TheVariants.{K1, K2, K3, K4, K5, K6
 use Rattle.sp_rules.proofs.Steps.{AreMet, IsReady, ready}
 use Rattle.sp_saturate.specs.Steps.{on}
 use Rattle.sp_saturate.specs.Trail.{Found}
-use Rattle.sp_saturate.specs.Gaps.{IsOld, simple, PairIsOld, TermIsOld}
+use Rattle.sp_saturate.specs.Gaps.{IsOld, simple, PairIsOld, TermIsOld, UpperIsOld}
 use Rattle.sp_saturate.proofs.Old.{settled}
 use Rattle.sp_rules.proofs.FactLemmas.{both_hold, one_holds}
 
@@ -93,6 +93,9 @@ module _ (t : Found) (old : (i : ℕ) → i < count t.terms → TermIsOld t i) w
   pair : (i j : ℕ) → InRange i j → PairIsOld t i j
   pair i j w = (old i (left_in i j w)).pairs j (right_in i j w)
 
+  upper : (i j : ℕ) → InRange i j → UpperIsOld t i j
+  upper i j w = (old i (left_in i j w)).uppers j (right_in i j w)
+
   equal_at : (a b i j r p : ℕ) → eqb a i ≡ true → eqb b j ≡ true → IsOld t (simple (Eq a b) r p) → IsOld t (simple (Eq i j) r p)
   equal_at a b i j r p e d o = subst (λ x. IsOld t (simple (Eq x j) r p)) (eqb-true a i e) (subst (λ y. IsOld t (simple (Eq a y) r p)) (eqb-true b j d) o)
 
@@ -118,10 +121,10 @@ module _ (t : Found) (old : (i : ℕ) → i < count t.terms → TermIsOld t i) w
 
   covered : (r : Rule) (f : Fact) (p q : ℕ) (first : Bool) → fits ts r f p q ≡ true → in_range (count ts) f ≡ true → p < count ts → q < count ts
       → AreMet ts (on t.steps) (premises ts r f p q) first → IsOld t (record { fact = f; rule = number r; p = p; q = q })
-  covered K1 (Eq i j) p q first u w l m met = at_zero (Eq i j) 1 p q (both_hold _ _ u).0 (pair i j w).equal.k1
-  covered K2 (Eq i j) p q first u w l m met = at_zero (Eq i j) 2 p q u (pair i j w).equal.k2
-  covered K3 (Eq i j) p q first u w l m met = at_p (Eq i j) 3 p q u (((old i (left_in i j w)).pairs p l).rows.k3 j (right_in i j w))
-  covered K4 (Eq i j) p q first u w l m met = at_zero (Eq i j) 4 p q (both_hold _ _ u).0 (pair i j w).equal.k4
+  covered K1 (Eq i j) p q first u w l m met = at_zero (Eq i j) 1 p q (both_hold _ _ u).0 (subst (λ y. IsOld t (simple (Eq i y) 1 0)) (eqb-true i j (both_hold _ _ u).1) (old i (left_in i j w)).form.k1)
+  covered K2 (Eq i j) p q first u w l m met = at_zero (Eq i j) 2 p q u ((old j (right_in i j w)).pairs i (left_in i j w)).equal.k2
+  covered K3 (Eq i j) p q first u w l m met = at_p (Eq i j) 3 p q u (((old i (left_in i j w)).pairs p l).equal.k3 j (right_in i j w))
+  covered K4 (Eq i j) p q first u w l m met = at_zero (Eq i j) 4 p q (both_hold _ _ u).0 (pair i j w).alike
   covered K5 (Eq i j) p q first u w l m met =
       let a = both_hold _ _ u in
       let b = both_hold _ _ a.0 in
@@ -129,24 +132,24 @@ module _ (t : Found) (old : (i : ℕ) → i < count t.terms → TermIsOld t i) w
   covered K6 (Eq i j) p q first u w l m met =
       let a = both_hold _ _ (both_hold _ _ u).0 in
       at_zero (Eq i j) 6 p q a.0 (subst (λ x. IsOld t (simple (Eq i x) 6 0)) (sym (eqb-true j 0 a.1)) (old i (left_in i j w)).form.k6)
-  covered K7 (Le i j) p q first u w l m met = at_zero (Le i j) 7 p q (both_hold _ _ (both_hold _ _ u).0).0 (pair i j w).below.k7
-  covered K8 (Le i j) p q first u w l m met = at_p (Le i j) 8 p q u (((old i (left_in i j w)).pairs p l).rows.k8 j (right_in i j w))
-  covered K9 (Le i j) p q first u w l m met = at_zero (Le i j) 9 p q (both_hold _ _ (both_hold _ _ u).0).0 (pair i j w).below.k9
-  covered K10 (Eq i j) p q first u w l m met = at_zero (Eq i j) 10 p q u (pair i j w).equal.k10
-  covered K11 (Le i j) p q first u w l m met = at_zero (Le i j) 11 p q (both_hold _ _ u).0 (pair i j w).below.k11
-  covered K12 (Le i j) p q first u w l m met = at_zero (Le i j) 12 p q (both_hold _ _ (both_hold _ _ (both_hold _ _ u).0).0).0 (pair i j w).below.k12
+  covered K7 (Le i j) p q first u w l m met = at_zero (Le i j) 7 p q (both_hold _ _ (both_hold _ _ u).0).0 (upper i j w).k7
+  covered K8 (Le i j) p q first u w l m met = at_p (Le i j) 8 p q u (((old i (left_in i j w)).pairs p l).below.k8 j (right_in i j w))
+  covered K9 (Le i j) p q first u w l m met = at_zero (Le i j) 9 p q (both_hold _ _ (both_hold _ _ u).0).0 (upper i j w).k9
+  covered K10 (Eq i j) p q first u w l m met = at_zero (Eq i j) 10 p q u (pair i j w).below.k10
+  covered K11 (Le i j) p q first u w l m met = at_zero (Le i j) 11 p q (both_hold _ _ u).0 (upper i j w).k11
+  covered K12 (Le i j) p q first u w l m met = at_zero (Le i j) 12 p q (both_hold _ _ (both_hold _ _ (both_hold _ _ u).0).0).0 (upper i j w).k12
   covered K13 (Le i j) p q first u w l m met =
       let a = both_hold _ _ u in
       let o = (old j (right_in i j w)).bounds in
       at_zero (Le i j) 13 p q (both_hold _ _ a.0).0
       (⊎_elim (λ (x : arg ts j 0 ≡ i). subst (λ y. IsOld t (simple (Le y j) 13 0)) x o.k13_first) (λ (x : arg ts j 1 ≡ i). subst (λ y. IsOld t (simple (Le y j) 13 0)) x o.k13_second) (part_of i j a.1))
-  covered K14 (Le i j) p q first u w l m met = at_zero (Le i j) 14 p q (both_hold _ _ u).0 (pair i j w).below.k14
+  covered K14 (Le i j) p q first u w l m met = at_zero (Le i j) 14 p q (both_hold _ _ u).0 (upper i j w).k14
   covered K15 (Le i j) p q first u w l m met =
       let a = both_hold _ _ u in
       let o = (old i (left_in i j w)).bounds in
       at_zero (Le i j) 15 p q (both_hold _ _ a.0).0
       (⊎_elim (λ (x : arg ts i 0 ≡ j). subst (λ y. IsOld t (simple (Le i y) 15 0)) x o.k15_first) (λ (x : arg ts i 1 ≡ j). subst (λ y. IsOld t (simple (Le i y) 15 0)) x o.k15_second) (part_of j i a.1))
-  covered K16 (Le i j) p q first u w l m met = at_zero (Le i j) 16 p q (both_hold _ _ u).0 (pair i j w).below.k16
+  covered K16 (Le i j) p q first u w l m met = at_zero (Le i j) 16 p q (both_hold _ _ u).0 ((old j (right_in i j w)).lowers i (left_in i j w))
   covered K17 (Le i j) p q first u w l m met =
       let a = both_hold _ _ u in
       let b = both_hold _ _ a.0 in

@@ -1,5 +1,9 @@
 -- What a round over all rules finds: a step that the facts lack, or that there is none.
-use Rattle.std.specs.Prelude.{◌≡◌, ℕ, ◌<◌, ◌≤◌, true, false, Option, MatchOption}
+use Rattle.std.specs.Prelude.{◌≡◌, ℕ, ◌<◌, ◌≤◌, Bool, true, false, Option, MatchOption}
+use Rattle.sp_values.specs.declared.value.Value.TheVariants.{Level}
+use Rattle.sp_values.specs.declared.value.Op.TheVariants.{Lub}
+use Rattle.sp_pool.specs.declared.node.Head.{Head}
+use Rattle.sp_pool.specs.declared.node.Head.TheVariants.{Const, Two}
 use Rattle.sp_rules.specs.Terms.{count, arg, node_at, is_arithmetic}
 use Rattle.sp_rules.specs.declared.fact.Fact.{Fact}
 use Rattle.sp_rules.specs.declared.fact.Fact.TheVariants.{Eq, Le}
@@ -18,29 +22,33 @@ IsGapOr t P o = MatchOption o P (λ s. is_new t s ≡ true)
 abbrev pub IsOld : Found → Step → Type 0
 IsOld t s = is_new t s ≡ false
 
--- the steps to an equality by a rule that uses no third term
-pub record EqualIsOld (t : Found) (i j : ℕ) : Type 0 where
-  pub k1 : IsOld t (simple (Eq i j) 1 0)
-  pub k2 : IsOld t (simple (Eq i j) 2 0)
-  pub k4 : IsOld t (simple (Eq i j) 4 0)
-  pub k10 : IsOld t (simple (Eq i j) 10 0)
+-- the steps from the equality of i and p: the other way round, and from i through p
+pub record EqualIsOld (t : Found) (i p : ℕ) : Type 0 where
+  pub k2 : IsOld t (simple (Eq p i) 2 0)
+  pub k3 : (j : ℕ) → j < count t.terms → IsOld t (simple (Eq i j) 3 p)
 
--- the steps to an order by such a rule
-pub record BelowIsOld (t : Found) (i j : ℕ) : Type 0 where
+-- the steps from the order of i and p: to their equality, and from i through p
+pub record BelowIsOld (t : Found) (i p : ℕ) : Type 0 where
+  pub k10 : IsOld t (simple (Eq i p) 10 0)
+  pub k8 : (j : ℕ) → j < count t.terms → IsOld t (simple (Le i j) 8 p)
+
+-- the steps to the order of i and j by the form of i
+pub record UpperIsOld (t : Found) (i j : ℕ) : Type 0 where
   pub k7 : IsOld t (simple (Le i j) 7 0)
   pub k9 : IsOld t (simple (Le i j) 9 0)
   pub k11 : IsOld t (simple (Le i j) 11 0)
   pub k12 : IsOld t (simple (Le i j) 12 0)
   pub k14 : IsOld t (simple (Le i j) 14 0)
-  pub k16 : IsOld t (simple (Le i j) 16 0)
 
--- the steps from i through p
-pub record RowsAreOld (t : Found) (i p : ℕ) : Type 0 where
-  pub k3 : (j : ℕ) → j < count t.terms → IsOld t (simple (Eq i j) 3 p)
-  pub k8 : (j : ℕ) → j < count t.terms → IsOld t (simple (Le i j) 8 p)
+-- the constant of a level, or LUB
+abbrev pub is_low_head : Head → Bool
+is_low_head (Const (Level x)) = true
+is_low_head (Two Lub) = true
+is_low_head _ = false
 
--- the steps to equalities of i as x = y, x <= y or IF
+-- the steps to the equality of i and itself, and to those of i as x = y, x <= y or IF
 pub record FormIsOld (t : Found) (i : ℕ) : Type 0 where
+  pub k1 : IsOld t (simple (Eq i i) 1 0)
   pub k5 : IsOld t (simple (Eq (arg t.terms i 0) (arg t.terms i 1)) 5 i)
   pub k6 : IsOld t (simple (Eq i 0) 6 0)
   pub k18 : IsOld t (simple (Eq i 0) 18 0)
@@ -72,13 +80,15 @@ SumsAreOld t i =
     → IsOld t (record { fact = Eq i j; rule = 23; p = p; q = q })
 
 pub record PairIsOld (t : Found) (i j : ℕ) : Type 0 where
+  pub alike : IsOld t (simple (Eq i j) 4 0)
   pub equal : EqualIsOld t i j
   pub below : BelowIsOld t i j
-  pub rows : RowsAreOld t i j
 
 pub record TermIsOld (t : Found) (i : ℕ) : Type 0 where
   pub form : FormIsOld t i
   pub bounds : BoundsAreOld t i
   pub truths : TruthsAreOld t i
   pub sums : SumsAreOld t i
+  pub uppers : (j : ℕ) → j < count t.terms → UpperIsOld t i j
+  pub lowers : (h : ℕ) → h < count t.terms → IsOld t (simple (Le h i) 16 0)
   pub pairs : (j : ℕ) → j < count t.terms → PairIsOld t i j

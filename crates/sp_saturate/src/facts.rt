@@ -1,7 +1,7 @@
 //! The closure of a formula's given facts, with assumptions that are made and taken back.
 #![tactic(auto, using(crate::proofs::Trails::extends_then, crate::proofs::Trails::extends_none))]
 
-ghost use Rattle.std.specs.Prelude.{◌≡◌, ℕ, ◌↔◌, ◌≤◌, ◌<◌, ◌++◌, ◌∷◌, ◌-◌, ◌*◌, ◌||◌, true, [], All, IfOk, IfSome, IsTrue, MatchOption, OnErr, length, take, slice_index, slice_index_or, vec_len, vec_capacity};
+ghost use Rattle.std.specs.Prelude.{◌≡◌, ℕ, ◌↔◌, ◌≤◌, ◌<◌, ◌++◌, ◌∷◌, ◌-◌, ◌*◌, ◌||◌, true, false, [], All, IfOk, IfSome, IsTrue, MatchOption, OnErr, length, take, slice_index, slice_index_or, vec_len, vec_capacity};
 ghost use Rattle.sp_rules.specs.Terms.{count};
 ghost use Rattle.sp_rules.specs.Table.{in_range};
 ghost use Rattle.sp_rules.specs.Branches.{HasClash};
@@ -18,7 +18,7 @@ ghost use Rattle.sp_saturate.specs.Trail.{Extends};
 
 use crate::behind::steps_behind;
 use crate::clashes::first_clash;
-use crate::follow::{follow, follow_to_clash, start, try_all};
+use crate::follow::{follow, follow_to_clash, has_clash, start, try_all};
 use crate::fronts::{ends_in_clash, front};
 use crate::gaps::gap;
 use crate::parents::Parents;
@@ -71,19 +71,21 @@ fn close(trail: &mut Trail, parents: &Parents, from: u32)
     }
 }
 
-/// The same, but only until there is a clash.
-fn close_to_clash(trail: &mut Trail, parents: &Parents, from: u32)
+/// The same, but only until there is a clash. Whether there is one.
+fn close_to_clash(trail: &mut Trail, parents: &Parents, from: u32) -> bool
     ensures extends { Extends trail.old trail.new }
+    ensures clash { IsTrue result → HasClashOn trail.new }
+    ensures calm { result ≡ false → IsCalmOn trail.new }
     ensures closed { IsCalmOn trail.new → IsClosed trail.new.terms (on trail.new.steps) }
 {
     let mut next = from;
     'rounds: loop {
         if follow_to_clash(trail, parents, next) {
-            return;
+            return true;
         }
         next = trail.count();
         let Some(step) = gap(trail) else {
-            return;
+            return has_clash(trail, 0);
         };
         let _ = trail.try_step(&step);
         trail.tell_few();
@@ -286,10 +288,10 @@ impl<'a> Facts<'a> {
         let fact = truth_fact(atom_at(self.atoms, atom), truth);
         let before = self.trail.count();
         self.trail.give(fact);
-        close_to_clash(&mut self.trail, &self.parents, before);
+        let is_clashing = close_to_clash(&mut self.trail, &self.parents, before);
         push_fact(&mut self.assumed, fact);
         self.trail.tell_found();
-        if first_clash(&self.trail).is_none() {
+        if !is_clashing {
             push_start(&mut self.starts, before);
             return Ok(None);
         }

@@ -1,8 +1,10 @@
 //! What follows from a new fact. It may forget some of it: the round over all rules finds that.
 #![tactic(auto, using(crate::proofs::Trails::extends_then, crate::proofs::Trails::extends_none))]
 
-ghost use Rattle.std.specs.Prelude.{◌≤◌, ◌<◌, IsTrue};
+ghost use Rattle.std.specs.Prelude.{◌≡◌, ℕ, ◌≤◌, ◌<◌, IsTrue, false, length};
+ghost use Rattle.sp_rules.specs.Clash.{is_clash};
 ghost use Rattle.sp_saturate.specs.Looking.{HasClashOn};
+ghost use Rattle.sp_saturate.specs.Steps.{step_at};
 ghost use Rattle.sp_saturate.specs.Trail.{Extends};
 
 use crate::parents::Parents;
@@ -241,14 +243,37 @@ fn try_all_sums(trail: &mut Trail, parents: &Parents, terms: &[u32], p: u32)
     }
 }
 
+/// Tries that some terms are TRUE, where they are the equality of two terms.
+fn try_sames(trail: &mut Trail, terms: &[u32])
+    ensures { Extends trail.old trail.new }
+{
+    for t in terms {
+        if matches!(trail.terms().head(*t), Head::Two(Op::Same)) {
+            let _ = trail.try_step(&equal(*t, 0, 6, 0));
+        }
+    }
+}
+
+/// Tries what the equality of i and j gives by the forms of terms: where j is no truth value, it can only be that an
+/// equality of terms is TRUE.
+fn follow_forms(trail: &mut Trail, parents: &Parents, i: u32, j: u32)
+    ensures { Extends trail.old trail.new }
+{
+    if j < 2 {
+        try_form(trail, i);
+        try_forms(trail, parents.at(i));
+    } else {
+        try_sames(trail, parents.at(i));
+    }
+}
+
 /// Tries what follows from an equality.
 fn follow_equal(trail: &mut Trail, parents: &Parents, i: u32, j: u32)
     ensures { Extends trail.old trail.new }
 {
     try_all(trail, &[equal(j, i, 2, 0), below(i, j, 9, 0)]);
     try_equal_rows(trail, i, j);
-    try_form(trail, i);
-    try_forms(trail, parents.at(i));
+    follow_forms(trail, parents, i, j);
     try_all_sums(trail, parents, parents.at(i), j);
     if i != j {
         try_all_alike(trail, parents.at(i), parents.at(j));
@@ -308,8 +333,9 @@ pub fn follow(trail: &mut Trail, parents: &Parents, from: u32)
 }
 
 /// Whether one of the steps from the given one on is a clash.
-fn has_clash(trail: &Trail, from: u32) -> bool
-    ensures { IsTrue result → HasClashOn trail.now }
+pub fn has_clash(trail: &Trail, from: u32) -> bool
+    ensures clash { IsTrue result → HasClashOn trail.now }
+    ensures calm { result ≡ false → (m : ℕ) → m < length trail.now.steps → from ≤ m → is_clash trail.now.terms (step_at trail.now.steps m).fact ≡ false }
 {
     for k in from..trail.count() {
         if clashes(trail.terms(), trail.fact(k)) {
@@ -319,11 +345,38 @@ fn has_clash(trail: &Trail, from: u32) -> bool
     false
 }
 
+/// Tries what follows from a truth value by the forms of terms, and the clash of a term that has both.
+fn follow_truth(trail: &mut Trail, parents: &Parents, fact: Fact)
+    ensures { Extends trail.old trail.new }
+{
+    if let Fact::Eq(i, j) = fact
+        && j < 2
+    {
+        try_all(trail, &[equal(j, i, 2, 0), equal(0, 1, 3, i)]);
+        try_form(trail, i);
+        try_forms(trail, parents.at(i));
+    }
+}
+
+/// Follows up the truth values among the steps from the given one on, to the last.
+fn follow_truths(trail: &mut Trail, parents: &Parents, from: u32)
+    ensures { Extends trail.old trail.new }
+{
+    for k in from..u32::MAX {
+        if k >= trail.count() {
+            return;
+        }
+        let fact = trail.fact(k);
+        follow_truth(trail, parents, fact);
+    }
+}
+
 /// Follows up the steps from the given one on until one is a clash, or to the last. Whether it came to a clash.
 pub fn follow_to_clash(trail: &mut Trail, parents: &Parents, from: u32) -> bool
     ensures extends { Extends trail.old trail.new }
     ensures clash { IsTrue result → HasClashOn trail.new }
 {
+    follow_truths(trail, parents, from);
     let mut calm = from;
     for k in from..u32::MAX {
         if has_clash(trail, calm) {

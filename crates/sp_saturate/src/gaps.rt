@@ -1,14 +1,16 @@
 //! One round over all rules, which finds a step that the facts lack.
 
 ghost use Rattle.std.specs.Prelude.{◌≡◌, ℕ, ◌<◌, ◌≤◌, true, false, None, Some, MatchOption};
-ghost use Rattle.sp_rules.specs.Terms.{count, arg, node_at};
+ghost use Rattle.sp_rules.specs.Terms.{count, arg, has_op, node_at};
 ghost use Rattle.sp_rules.specs.Laws.{IsClosed};
 ghost use Rattle.sp_saturate.specs.Steps.{on};
 ghost use Rattle.sp_saturate.specs.Trail.{is_new};
-ghost use Rattle.sp_saturate.specs.Gaps.{IsGapOr, simple, EqualIsOld, BelowIsOld, RowsAreOld, FormIsOld, BoundsAreOld, TruthIsOld, TruthsAreOld, SumsAreOld, PairIsOld, TermIsOld, IsOld};
+ghost use Rattle.sp_saturate.specs.Gaps.{IsGapOr, simple, EqualIsOld, BelowIsOld, UpperIsOld, FormIsOld, BoundsAreOld, TruthIsOld, TruthsAreOld, SumsAreOld, PairIsOld, TermIsOld, IsOld, is_low_head};
 
 use crate::trail::Trail;
+use sp_pool::Head;
 use sp_rules::{Fact, Step};
+use sp_values::{Op, Value};
 
 #[inline(always)]
 fn equal(i: u32, j: u32, rule: u8, p: u32) -> Step
@@ -34,32 +36,90 @@ fn below(i: u32, j: u32, rule: u8, p: u32) -> Step
     }
 }
 
-/// A new step to an equality by a rule that uses no third term.
-fn equal_gap(trail: &Trail, i: u32, j: u32) -> Option<Step>
-    ensures { IsGapOr trail.now (EqualIsOld trail.now i j) result }
+/// A new step to the equality of two terms that are alike.
+fn alike_gap(trail: &Trail, i: u32, j: u32) -> Option<Step>
+    ensures { IsGapOr trail.now (IsOld trail.now (simple (Fact.Eq i j) 4 0)) result }
 {
-    let step = equal(i, j, 1, 0);
-    if trail.is_new(&step) {
-        return Some(step);
-    }
-    let step = equal(i, j, 2, 0);
-    if trail.is_new(&step) {
-        return Some(step);
+    if trail.terms().argument_count(i) != trail.terms().argument_count(j) {
+        return None;
     }
     let step = equal(i, j, 4, 0);
-    if trail.is_new(&step) {
-        return Some(step);
-    }
-    let step = equal(i, j, 10, 0);
     if trail.is_new(&step) {
         return Some(step);
     }
     None
 }
 
-/// A new step to an order by such a rule.
-fn below_gap(trail: &Trail, i: u32, j: u32) -> Option<Step>
-    ensures { IsGapOr trail.now (BelowIsOld trail.now i j) result }
+/// A new step from the equality of i and p: the other way round, or from i through p.
+fn equal_row_gap(trail: &Trail, i: u32, p: u32) -> Option<Step>
+    requires i { i < count trail.now.terms }
+    requires p { p < count trail.now.terms }
+    ensures { IsGapOr trail.now (EqualIsOld trail.now i p) result }
+{
+    if !trail.holds(Fact::Eq(i, p)) {
+        return None;
+    }
+    let step = equal(p, i, 2, 0);
+    if trail.is_new(&step) {
+        return Some(step);
+    }
+    if trail.is_equal_within(p, i) {
+        return None;
+    }
+    for j in 0..trail.size() {
+        let step = equal(i, j, 3, p);
+        if trail.is_new(&step) {
+            return Some(step);
+        }
+    }
+    None
+}
+
+/// A new step from the order of i and p: to their equality, or from i through p.
+fn below_row_gap(trail: &Trail, i: u32, p: u32) -> Option<Step>
+    requires i { i < count trail.now.terms }
+    requires p { p < count trail.now.terms }
+    ensures { IsGapOr trail.now (BelowIsOld trail.now i p) result }
+{
+    if !trail.holds(Fact::Le(i, p)) {
+        return None;
+    }
+    let step = equal(i, p, 10, 0);
+    if trail.is_new(&step) {
+        return Some(step);
+    }
+    if trail.is_upper_within(p, i) {
+        return None;
+    }
+    for j in 0..trail.size() {
+        let step = below(i, j, 8, p);
+        if trail.is_new(&step) {
+            return Some(step);
+        }
+    }
+    None
+}
+
+fn pair_gap(trail: &Trail, i: u32, j: u32) -> Option<Step>
+    requires i { i < count trail.now.terms }
+    requires j { j < count trail.now.terms }
+    ensures { IsGapOr trail.now (PairIsOld trail.now i j) result }
+{
+    if let Some(step) = alike_gap(trail, i, j) {
+        return Some(step);
+    }
+    if let Some(step) = equal_row_gap(trail, i, j) {
+        return Some(step);
+    }
+    if let Some(step) = below_row_gap(trail, i, j) {
+        return Some(step);
+    }
+    None
+}
+
+/// A new step to the order of i and j by the form of i.
+fn upper_gap(trail: &Trail, i: u32, j: u32) -> Option<Step>
+    ensures { IsGapOr trail.now (UpperIsOld trail.now i j) result }
 {
     let step = below(i, j, 7, 0);
     if trail.is_new(&step) {
@@ -81,27 +141,47 @@ fn below_gap(trail: &Trail, i: u32, j: u32) -> Option<Step>
     if trail.is_new(&step) {
         return Some(step);
     }
-    let step = below(i, j, 16, 0);
-    if trail.is_new(&step) {
-        return Some(step);
+    None
+}
+
+/// Whether a term with this head may lie below others by its form alone: it is the constant of a level or a LUB.
+fn is_low_head(head: Head) -> bool
+    ensures { result ≡ is_low_head head }
+{
+    matches!(head, Head::Const(Value::Level(_)) | Head::Two(Op::Lub))
+}
+
+/// A new step to the order of term i and another, by the form of i.
+fn uppers_gap(trail: &Trail, i: u32) -> Option<Step>
+    ensures { IsGapOr trail.now ((j : ℕ) → j < count trail.now.terms → UpperIsOld trail.now i j) result }
+{
+    if !trail.terms().is_level(i) && !is_low_head(trail.terms().head(i)) {
+        return None;
+    }
+    for j in 0..trail.size() {
+        if let Some(step) = upper_gap(trail, i, j) {
+            return Some(step);
+        }
     }
     None
 }
 
-/// A new step from i through p, both ways of which are equalities.
-fn equal_row_gap(trail: &Trail, i: u32, p: u32) -> Option<Step>
-    requires i { i < count trail.now.terms }
-    requires p { p < count trail.now.terms }
-    ensures { IsGapOr trail.now ((j : ℕ) → j < count trail.now.terms → IsOld trail.now (simple (Fact.Eq i j) 3 p)) result }
+/// Whether it is GLB.
+fn is_high_head(head: Head) -> bool
+    ensures { result ≡ has_op Op.Glb head }
 {
-    if !trail.holds(Fact::Eq(i, p)) {
+    matches!(head, Head::Two(Op::Glb))
+}
+
+/// A new step to the order of another term and i, by the form of i.
+fn lowers_gap(trail: &Trail, i: u32) -> Option<Step>
+    ensures { IsGapOr trail.now ((h : ℕ) → h < count trail.now.terms → IsOld trail.now (simple (Fact.Le h i) 16 0)) result }
+{
+    if !is_high_head(trail.terms().head(i)) {
         return None;
     }
-    if trail.is_equal_within(p, i) {
-        return None;
-    }
-    for j in 0..trail.size() {
-        let step = equal(i, j, 3, p);
+    for h in 0..trail.size() {
+        let step = below(h, i, 16, 0);
         if trail.is_new(&step) {
             return Some(step);
         }
@@ -109,54 +189,17 @@ fn equal_row_gap(trail: &Trail, i: u32, p: u32) -> Option<Step>
     None
 }
 
-/// The same of the order.
-fn below_row_gap(trail: &Trail, i: u32, p: u32) -> Option<Step>
-    requires i { i < count trail.now.terms }
-    requires p { p < count trail.now.terms }
-    ensures { IsGapOr trail.now ((j : ℕ) → j < count trail.now.terms → IsOld trail.now (simple (Fact.Le i j) 8 p)) result }
-{
-    if !trail.holds(Fact::Le(i, p)) {
-        return None;
-    }
-    if trail.is_upper_within(p, i) {
-        return None;
-    }
-    for j in 0..trail.size() {
-        let step = below(i, j, 8, p);
-        if trail.is_new(&step) {
-            return Some(step);
-        }
-    }
-    None
-}
-
-fn pair_gap(trail: &Trail, i: u32, j: u32) -> Option<Step>
-    requires i { i < count trail.now.terms }
-    requires j { j < count trail.now.terms }
-    ensures { IsGapOr trail.now (PairIsOld trail.now i j) result }
-{
-    if let Some(step) = equal_gap(trail, i, j) {
-        return Some(step);
-    }
-    if let Some(step) = below_gap(trail, i, j) {
-        return Some(step);
-    }
-    if let Some(step) = equal_row_gap(trail, i, j) {
-        return Some(step);
-    }
-    if let Some(step) = below_row_gap(trail, i, j) {
-        return Some(step);
-    }
-    None
-}
-
-/// A new step to an equality of term i as x = y, x <= y or IF.
+/// A new step to the equality of term i and itself, or of i as x = y, x <= y or IF.
 fn form_gap(trail: &Trail, i: u32) -> Option<Step>
     ensures { IsGapOr trail.now (FormIsOld trail.now i) result }
 {
     let x = trail.terms().argument(i, 0);
     let y = trail.terms().argument(i, 1);
     let z = trail.terms().argument(i, 2);
+    let step = equal(i, i, 1, 0);
+    if trail.is_new(&step) {
+        return Some(step);
+    }
     let step = equal(x, y, 5, i);
     if trail.is_new(&step) {
         return Some(step);
@@ -310,6 +353,12 @@ fn term_gap(trail: &Trail, i: u32) -> Option<Step>
         return Some(step);
     }
     if let Some(step) = sums_gap(trail, i) {
+        return Some(step);
+    }
+    if let Some(step) = uppers_gap(trail, i) {
+        return Some(step);
+    }
+    if let Some(step) = lowers_gap(trail, i) {
         return Some(step);
     }
     for j in 0..trail.size() {

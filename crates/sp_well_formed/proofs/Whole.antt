@@ -126,10 +126,10 @@ numbers_of {A} its Q ms all each make is k x at =
     let q = of_placed its (λ j m. IsModuleNumbered m) (λ (t : Placed Module A). Q t.item) (λ n m h j a e. of_all Q (its m) (each m h) j a e) 0 ms parts k r.0 r.1 in
     subst (λ (y : ℕ × A). Q y.1) r.2 q
 
--- The whole
+-- What the interface and its modules see
 
-module _ (lent : FoundAreLent) (found : LentAreFound) (i : InterfaceTree) (ms : List Module) (bottom top : ℕ) (p : Parts) (none : scopes_broken i ms ≡ [])
-    (levels : HasLevels (scopes_of i ms)) (ends : AreEnds (scopes_of i ms) bottom top) (ordered : IsLatticeOrder p.lattice) (numbers : AreAllNumbered (scopes_of i ms).definitions i.levels ms)
+module _ (lent : FoundAreLent) (i : InterfaceTree) (ms : List Module) (bottom top : ℕ) (p : Parts) (none : scopes_broken i ms ≡ [])
+    (levels : HasLevels (scopes_of i ms)) (ends : AreEnds (scopes_of i ms) bottom top) (defined : All IsDefinitionNumbered (scopes_of i ms).definitions)
     (rest : rest_broken i ms bottom top ≡ []) (meant : IsMeant (scopes_of i ms) bottom top i ms p) where
   abbrev s : Scopes
   s = scopes_of i ms
@@ -147,22 +147,8 @@ module _ (lent : FoundAreLent) (found : LentAreFound) (i : InterfaceTree) (ms : 
   bodies_none : bodies_broken s bottom top ms ≡ []
   bodies_none = inner_nothing (bodies_broken s bottom top ms) (ends_broken s bottom top i ms) rest
 
-  ends_none : ends_broken s bottom top i ms ≡ []
-  ends_none = own_nothing (bodies_broken s bottom top ms) (ends_broken s bottom top i ms) rest
-
   definitions_none : definitions_broken (view s 0 bottom top) 0 s.definitions ≡ []
   definitions_none = left_nothing (definitions_broken (view s 0 bottom top) 0 s.definitions) (second.modules_broken s bottom top 0 0 [] ms) bodies_none
-
-  modules_none : second.modules_broken s bottom top 0 0 [] ms ≡ []
-  modules_none = right_nothing (definitions_broken (view s 0 bottom top) 0 s.definitions) (second.modules_broken s bottom top 0 0 [] ms) bodies_none
-
-  equations_none : equations_broken whole i.levels ≡ []
-  equations_none =
-      map_nothing (λ v. record { file = 0; violation = v }) (equations_broken whole i.levels)
-      (left_nothing (in_file 0 (equations_broken whole i.levels)) (third.modules_broken s bottom top whole i.levels 0 0 ms) ends_none)
-
-  levels_none : third.modules_broken s bottom top whole i.levels 0 0 ms ≡ []
-  levels_none = right_nothing (in_file 0 (equations_broken whole i.levels)) (third.modules_broken s bottom top whole i.levels 0 0 ms) ends_none
 
   -- as many functions as heads
   texts_count : length (function_texts ms) ≡ length s.functions
@@ -199,71 +185,89 @@ module _ (lent : FoundAreLent) (found : LentAreFound) (i : InterfaceTree) (ms : 
     functions = headed;
   }
 
-  seen : (k : ℕ) → IsSeenBy sg (sees k)
+  -- what each module and the interface see is that of the signature
+  pub seen : (k : ℕ) → IsSeenBy sg (sees k)
   seen k =
-      let w = all_defined sg s bottom top (definitions_plain lent i ms none sg has) (λ j d at. of_all IsDefinitionNumbered s.definitions numbers.definitions j d at) definitions_none
+      let w = all_defined sg s bottom top (definitions_plain lent i ms none sg has) (λ j d at. of_all IsDefinitionNumbered s.definitions defined j d at) definitions_none
       (first_scopes lent i ms none sg has bottom top ends) k in
       record { scope = w.0; fresh = w.1; functions = functions_count }
 
-  -- names
-  names_found : AreFound (entity_at s (length ms)) p
-  names_found = record {
-    types = λ t info at.
-        let r = under_map type_info s.types t info (ap (λ z. slice_get z t) (sym meant.types) ∙ at) in
-        subst (λ (z : TypeInfo). entity_at s (length ms) z.name ≡ Some (entity.Declared t)) r.2 (found i ms none r.0.name (entity.Declared t) (r.0, (r.1, refl)));
-    members = λ t k info x at in_it.
-        let r = under_map type_info s.types t info (ap (λ z. slice_get z t) (sym meant.types) ∙ at) in
-        members_at (λ j y. entity_at s (length ms) y ≡ Some (entity.Member t j)) r.0 k x (λ xs is e. found i ms none x (entity.Member t k) (r.0, (xs, (r.1, (is, e)))))
-        (ap (λ (z : TypeInfo). slice_get (members_of z) k) r.2 ∙ in_it);
-    params = λ k q at.
-        let r = under_map param_of s.parameters k q (ap (λ z. slice_get z k) (sym meant.params) ∙ at) in
-        subst (λ (z : Param). entity_at s (length ms) z.name ≡ Some (entity.Param k)) r.2 (found i ms none r.0.name (entity.Param k) (r.0, (r.1, refl)));
-    functions = λ k f at.
-        let lt = slice_get_within p.functions k f at in
-        let r = function_of k (omega (arith, lt, functions_count)) in
-        let same = same_item r.1 f (sym r.2 ∙ at) in
-        subst (λ (z : Function). entity_at s (length ms) z.name ≡ Some (entity.Function k)) same
-        (subst (λ y. entity_at s (length ms) y ≡ Some (entity.Function k)) (sym r.3.is.name) (found i ms none r.3.head.name (entity.Function k) (r.3.head, (r.3.has_head, refl))));
-    levels = λ k x at. found i ms none x (entity.Level k) (ap (λ z. slice_get z k) (sym meant.level_names) ∙ at);
-  }
+  -- The whole
 
-  types_there : (g : ℕ) (h : Head) → function_at whole g ≡ Some h → AreTypes sg h.formals × IsAsked sg (any_type h.sort) × (length h.formals ≤ 8)
-  types_there g h at =
-      let fine = functions_fine lent i ms none g h at in
-      let head = head_of_in lent i ms none sg has h fine in
-      (head.formals, head.any, fine.few)
+  module _ (found : LentAreFound) (ordered : IsLatticeOrder p.lattice) (numbers : AreAllNumbered (scopes_of i ms).definitions i.levels ms) where
+    ends_none : ends_broken s bottom top i ms ≡ []
+    ends_none = own_nothing (bodies_broken s bottom top ms) (ends_broken s bottom top i ms) rest
 
-  functions_formed : (k : ℕ) (f : Function) → slice_get p.functions k ≡ Some f → IsFunction sg k f
-  functions_formed =
-      let low : 0 ≤ 65535 = omega arith in
-      let few : length (function_texts ms) ≤ 512 = omega (arith, texts_count, few_functions found i ms none) in
-      all_fine sg sees whole seen (seen (counted 0 (length s.takes))) (λ k g. refl) types_there i.levels equations_none numbers.equations (function_texts ms) meant.functions
-      (all_functions s bottom top 0 0 [] ms modules_none) (all_levels s bottom top whole i.levels 0 0 ms low levels_none)
-      (numbers_of (λ (m : Module). m.functions) IsFunctionNumbered ms numbers.modules (λ m n. n.functions) numbered_functions (λ n m. refl)) few
+    modules_none : second.modules_broken s bottom top 0 0 [] ms ≡ []
+    modules_none = right_nothing (definitions_broken (view s 0 bottom top) 0 s.definitions) (second.modules_broken s bottom top 0 0 [] ms) bodies_none
 
-  assertions_few : length p.assertions ≤ 64
-  assertions_few =
-      let low : 0 ≤ 65535 = omega arith in
-      let start : 0 ≤ 64 = omega arith in
-      let few = few_assertions sees 0 (assertion_texts ms) start (all_assertions s bottom top 0 0 [] ms low modules_none) in
-      omega (arith, few, assertions_length sees (assertion_texts ms) p.assertions meant.assertions)
+    equations_none : equations_broken whole i.levels ≡ []
+    equations_none =
+        map_nothing (λ v. record { file = 0; violation = v }) (equations_broken whole i.levels)
+        (left_nothing (in_file 0 (equations_broken whole i.levels)) (third.modules_broken s bottom top whole i.levels 0 0 ms) ends_none)
 
-  pub formed : IsWellFormed p
-  formed =
-      let low : 0 ≤ 65535 = omega arith in
-      record {
-        lattice = ordered;
-        level_names = ap length meant.level_names ∙ has.levels;
-        names = names_differ (entity_at s (length ms)) p names_found;
-        few_types = omega (arith, few_types found i ms none, ap length meant.types ∙ map_length type_info s.types);
-        few_members = all_of (λ info. length (members_of info) ≤ 64) p.types (λ t info at.
-            let r = under_map type_info s.types t info (ap (λ z. slice_get z t) (sym meant.types) ∙ at) in
-            subst (λ (z : TypeInfo). length (members_of z) ≤ 64) r.2 (members_few r.0 (λ xs is. few_members found i ms none t r.0 xs r.1 is)));
-        few_params = omega (arith, few_params found i ms none, ap length meant.params ∙ map_length param_of s.parameters);
-        few_assertions = assertions_few;
-        few_functions = omega (arith, few_functions found i ms none, functions_count);
-        params = all_of (IsParam sg) p.params (params_formed lent i ms none sg has);
-        assertions = assertions_formed sg sees seen 0 (assertion_texts ms) p.assertions meant.assertions (all_assertions s bottom top 0 0 [] ms low modules_none)
-            (numbers_of (λ (m : Module). m.assertions) IsNumbered ms numbers.modules (λ m n. n.assertions) numbered_assertions (λ n m. refl));
-        functions = functions_formed;
-      }
+    levels_none : third.modules_broken s bottom top whole i.levels 0 0 ms ≡ []
+    levels_none = right_nothing (in_file 0 (equations_broken whole i.levels)) (third.modules_broken s bottom top whole i.levels 0 0 ms) ends_none
+
+    -- names
+    names_found : AreFound (entity_at s (length ms)) p
+    names_found = record {
+      types = λ t info at.
+          let r = under_map type_info s.types t info (ap (λ z. slice_get z t) (sym meant.types) ∙ at) in
+          subst (λ (z : TypeInfo). entity_at s (length ms) z.name ≡ Some (entity.Declared t)) r.2 (found i ms none r.0.name (entity.Declared t) (r.0, (r.1, refl)));
+      members = λ t k info x at in_it.
+          let r = under_map type_info s.types t info (ap (λ z. slice_get z t) (sym meant.types) ∙ at) in
+          members_at (λ j y. entity_at s (length ms) y ≡ Some (entity.Member t j)) r.0 k x (λ xs is e. found i ms none x (entity.Member t k) (r.0, (xs, (r.1, (is, e)))))
+          (ap (λ (z : TypeInfo). slice_get (members_of z) k) r.2 ∙ in_it);
+      params = λ k q at.
+          let r = under_map param_of s.parameters k q (ap (λ z. slice_get z k) (sym meant.params) ∙ at) in
+          subst (λ (z : Param). entity_at s (length ms) z.name ≡ Some (entity.Param k)) r.2 (found i ms none r.0.name (entity.Param k) (r.0, (r.1, refl)));
+      functions = λ k f at.
+          let lt = slice_get_within p.functions k f at in
+          let r = function_of k (omega (arith, lt, functions_count)) in
+          let same = same_item r.1 f (sym r.2 ∙ at) in
+          subst (λ (z : Function). entity_at s (length ms) z.name ≡ Some (entity.Function k)) same
+          (subst (λ y. entity_at s (length ms) y ≡ Some (entity.Function k)) (sym r.3.is.name) (found i ms none r.3.head.name (entity.Function k) (r.3.head, (r.3.has_head, refl))));
+      levels = λ k x at. found i ms none x (entity.Level k) (ap (λ z. slice_get z k) (sym meant.level_names) ∙ at);
+    }
+
+    types_there : (g : ℕ) (h : Head) → function_at whole g ≡ Some h → AreTypes sg h.formals × IsAsked sg (any_type h.sort) × (length h.formals ≤ 8)
+    types_there g h at =
+        let fine = functions_fine lent i ms none g h at in
+        let head = head_of_in lent i ms none sg has h fine in
+        (head.formals, head.any, fine.few)
+
+    functions_formed : (k : ℕ) (f : Function) → slice_get p.functions k ≡ Some f → IsFunction sg k f
+    functions_formed =
+        let low : 0 ≤ 65535 = omega arith in
+        let few : length (function_texts ms) ≤ 512 = omega (arith, texts_count, few_functions found i ms none) in
+        all_fine sg sees whole seen (seen (counted 0 (length s.takes))) (λ k g. refl) types_there i.levels equations_none numbers.equations (function_texts ms) meant.functions
+        (all_functions s bottom top 0 0 [] ms modules_none) (all_levels s bottom top whole i.levels 0 0 ms low levels_none)
+        (numbers_of (λ (m : Module). m.functions) IsFunctionNumbered ms numbers.modules (λ m n. n.functions) numbered_functions (λ n m. refl)) few
+
+    assertions_few : length p.assertions ≤ 64
+    assertions_few =
+        let low : 0 ≤ 65535 = omega arith in
+        let start : 0 ≤ 64 = omega arith in
+        let few = few_assertions sees 0 (assertion_texts ms) start (all_assertions s bottom top 0 0 [] ms low modules_none) in
+        omega (arith, few, assertions_length sees (assertion_texts ms) p.assertions meant.assertions)
+
+    pub formed : IsWellFormed p
+    formed =
+        let low : 0 ≤ 65535 = omega arith in
+        record {
+          lattice = ordered;
+          level_names = ap length meant.level_names ∙ has.levels;
+          names = names_differ (entity_at s (length ms)) p names_found;
+          few_types = omega (arith, few_types found i ms none, ap length meant.types ∙ map_length type_info s.types);
+          few_members = all_of (λ info. length (members_of info) ≤ 64) p.types (λ t info at.
+              let r = under_map type_info s.types t info (ap (λ z. slice_get z t) (sym meant.types) ∙ at) in
+              subst (λ (z : TypeInfo). length (members_of z) ≤ 64) r.2 (members_few r.0 (λ xs is. few_members found i ms none t r.0 xs r.1 is)));
+          few_params = omega (arith, few_params found i ms none, ap length meant.params ∙ map_length param_of s.parameters);
+          few_assertions = assertions_few;
+          few_functions = omega (arith, few_functions found i ms none, functions_count);
+          params = all_of (IsParam sg) p.params (params_formed lent i ms none sg has);
+          assertions = assertions_formed sg sees seen 0 (assertion_texts ms) p.assertions meant.assertions (all_assertions s bottom top 0 0 [] ms low modules_none)
+              (numbers_of (λ (m : Module). m.assertions) IsNumbered ms numbers.modules (λ m n. n.assertions) numbered_assertions (λ n m. refl));
+          functions = functions_formed;
+        }

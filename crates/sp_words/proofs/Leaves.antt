@@ -1,5 +1,5 @@
 -- Each command takes as many plain words as it has arguments, and gives each argument its word.
-use Rattle.std.proofs.Common.{◌≡◌, ◌∙◌, ℕ, List, [], ◌∷◌, Some, None, Option, refl, sym, ap, length, map, true, false, arith}
+use Rattle.std.proofs.Common.{◌≡◌, ◌∙◌, ℕ, List, [], ◌∷◌, Some, None, Option, refl, sym, ap, codes, length, map, true, false, arith}
 use Rattle.std.specs.List.{list_all}
 use Rattle.clap.specs.Faults.{level_fault, step_fault}
 use Rattle.clap.specs.Simple.{App, Shape, built_leaf, inherited, marked_built, with_leaf_noted}
@@ -8,8 +8,8 @@ use Rattle.clap.specs.Words.{first_of}
 use Rattle.clap.specs.declared.error.kind.ErrorKind.TheVariants as kind
 use Rattle.clap.proofs.OnLiterals.{clap_on_literals}
 use Rattle.clap.proofs.WalkLemmas.{both}
-use Rattle.sp_words.specs.App.{four_words, one_word, special_app, three_words, two_words}
-use Rattle.sp_words.specs.Verb.{four_arguments, one_argument, three_arguments, two_arguments}
+use Rattle.sp_words.specs.App.{four_words, named_word, special_app, three_words, two_words}
+use Rattle.sp_words.specs.Verb.{four_arguments, three_arguments, two_arguments}
 use Rattle.sp_words.specs.Words.{is_plain}
 use Rattle.sp_words.proofs.Walks.{IsNoFlag, Walks, at, ends, go, held_after, leaf_from, plain_no_flag, stay, strays}
 
@@ -36,50 +36,76 @@ pub record Takes (s : Shape) (ids : List Text) : Type 0 where
   pub given : (ws : List Text) → list_all is_plain ws ≡ true → level_fault s [] nothing_held ws false [] ≡ []
       → map (λ id. first_of id (rows_after s.rules [] ws)) ids ≡ map Some ws
 
+-- what a command with one argument takes
+pub data Sole : Type 0 where
+  an_interface : Sole
+  a_hierarchy : Sole
+  a_size : Sole
+
+abbrev pub id_of : Sole → Text
+id_of an_interface = codes "I"
+id_of a_hierarchy = codes "H"
+id_of a_size = codes "N"
+
 -- one word
 
-module _ (name : Text) where
+module _ (sole : Sole) (name : Text) where
   abbrev s1 : Shape
-  s1 = leaf_of (one_word name)
+  s1 = leaf_of (named_word (id_of sole) name)
 
-  walks10 : Walks s1 nothing_held 1 [] nothing_held 1
+module _ (name : Text) where
+  walks10 : (sole : Sole) → Walks (s1 sole name) nothing_held 1 [] nothing_held 1
   unfolding clap_on_literals
-  walks10 = stay s1 nothing_held 1
+  walks10 sole = stay (s1 sole name) nothing_held 1
 
-  end10 : leaf_from s1 (at nothing_held 1) [] ≡ kind.MissingRequiredArgument ∷ []
+  end10 : (sole : Sole) → leaf_from (s1 sole name) (at nothing_held 1) [] ≡ kind.MissingRequiredArgument ∷ []
   unfolding clap_on_literals
-  end10 = refl
+  end10 an_interface = refl
+  end10 a_hierarchy = refl
+  end10 a_size = refl
 
-  walks11 : (a : Text) (p : IsNoFlag a) → Walks s1 nothing_held 1 (a ∷ []) (h1 s1 a) 2
+  walks11 : (sole : Sole) (a : Text) (p : IsNoFlag a) → Walks (s1 sole name) nothing_held 1 (a ∷ []) (h1 (s1 sole name) a) 2
   unfolding clap_on_literals
-  walks11 a p = go s1 nothing_held 1 a [] (h1 s1 a) 2 p refl refl (stay s1 (h1 s1 a) 2)
+  walks11 an_interface a p = let s : Shape = s1 an_interface name in go s nothing_held 1 a [] (h1 s a) 2 p refl refl (stay s (h1 s a) 2)
+  walks11 a_hierarchy a p = let s : Shape = s1 a_hierarchy name in go s nothing_held 1 a [] (h1 s a) 2 p refl refl (stay s (h1 s a) 2)
+  walks11 a_size a p = let s : Shape = s1 a_size name in go s nothing_held 1 a [] (h1 s a) 2 p refl refl (stay s (h1 s a) 2)
 
-  end11 : (a : Text) → leaf_from s1 (at (h1 s1 a) 2) [] ≡ []
+  end11 : (sole : Sole) (a : Text) → leaf_from (s1 sole name) (at (h1 (s1 sole name) a) 2) [] ≡ []
   unfolding clap_on_literals
-  end11 a = refl
+  end11 an_interface a = refl
+  end11 a_hierarchy a = refl
+  end11 a_size a = refl
 
-  stray1 : (a : Text) → step_fault s1 2 (h1 s1 a) value ≡ kind.UnknownArgument ∷ []
+  stray1 : (sole : Sole) (a : Text) → step_fault (s1 sole name) 2 (h1 (s1 sole name) a) value ≡ kind.UnknownArgument ∷ []
   unfolding clap_on_literals
-  stray1 a = refl
+  stray1 an_interface a = refl
+  stray1 a_hierarchy a = refl
+  stray1 a_size a = refl
 
-  values1 : (a : Text) → map (λ id. first_of id (finished s1.rules (h1 s1 a))) one_argument ≡ map Some (a ∷ [])
+  values1 : (sole : Sole) (a : Text) → map (λ id. first_of id (finished (s1 sole name).rules (h1 (s1 sole name) a))) (id_of sole ∷ []) ≡ map Some (a ∷ [])
   unfolding clap_on_literals
-  values1 a = refl
+  values1 an_interface a = refl
+  values1 a_hierarchy a = refl
+  values1 a_size a = refl
 
-  right1 : (ws : List Text) → list_all is_plain ws ≡ true → length ws ≡ 1 → level_fault s1 [] nothing_held ws false [] ≡ []
+module _ (sole : Sole) (name : Text) where
+  abbrev one : Shape
+  one = s1 sole name
+
+  right1 : (ws : List Text) → list_all is_plain ws ≡ true → length ws ≡ 1 → level_fault one [] nothing_held ws false [] ≡ []
   right1 [] p e = absurd (omega arith)
-  right1 (a ∷ []) p e = ends s1 (a ∷ []) (h1 s1 a) 2 (walks11 a (plain_no_flag a (both _ _ p).0)) ∙ end11 a
+  right1 (a ∷ []) p e = ends one (a ∷ []) (h1 one a) 2 (walks11 name sole a (plain_no_flag a (both _ _ p).0)) ∙ end11 name sole a
   right1 (a ∷ x ∷ rest) p e = absurd (omega arith)
 
-  given1 : (ws : List Text) → list_all is_plain ws ≡ true → level_fault s1 [] nothing_held ws false [] ≡ []
-      → map (λ id. first_of id (rows_after s1.rules [] ws)) one_argument ≡ map Some ws
+  given1 : (ws : List Text) → list_all is_plain ws ≡ true → level_fault one [] nothing_held ws false [] ≡ []
+      → map (λ id. first_of id (rows_after one.rules [] ws)) (id_of sole ∷ []) ≡ map Some ws
   given1 [] p e =
-      let bad : kind.MissingRequiredArgument ∷ [] ≡ [] = sym (ends s1 [] nothing_held 1 (walks10) ∙ end10) ∙ e in cc
-  given1 (a ∷ []) p e = ap (λ w. map (λ id. first_of id (finished s1.rules w.held)) one_argument) (walks11 a (plain_no_flag a (both _ _ p).0)).walk ∙ values1 a
+      let bad : kind.MissingRequiredArgument ∷ [] ≡ [] = sym (ends one [] nothing_held 1 (walks10 name sole) ∙ end10 name sole) ∙ e in cc
+  given1 (a ∷ []) p e = ap (λ w. map (λ id. first_of id (finished one.rules w.held)) (id_of sole ∷ [])) (walks11 name sole a (plain_no_flag a (both _ _ p).0)).walk ∙ values1 name sole a
   given1 (a ∷ x ∷ rest) p e =
-      let bad : kind.UnknownArgument ∷ [] ≡ [] = sym (strays s1 (a ∷ []) (h1 s1 a) 2 x rest (walks11 a (plain_no_flag a (both _ _ p).0)) (plain_no_flag x (both _ _ (both (is_plain a) _ p).1).0) (stray1 a)) ∙ e in cc
+      let bad : kind.UnknownArgument ∷ [] ≡ [] = sym (strays one (a ∷ []) (h1 one a) 2 x rest (walks11 name sole a (plain_no_flag a (both _ _ p).0)) (plain_no_flag x (both _ _ (both (is_plain a) _ p).1).0) (stray1 name sole a)) ∙ e in cc
 
-  pub takes_one : Takes s1 one_argument
+  pub takes_one : Takes one (id_of sole ∷ [])
   takes_one = record { right = right1; given = given1 }
 
 -- two words

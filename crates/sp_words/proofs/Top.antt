@@ -1,5 +1,5 @@
 -- The words after a verb are judged by its command alone.
-use Rattle.std.proofs.Common.{◌≡◌, ◌∙◌, ◌++◌, ℕ, List, [], ◌∷◌, Some, None, Option, refl, sym, ap, ap₂, fold, is_some, length, map, append-nil, append_assoc, true, false}
+use Rattle.std.proofs.Common.{◌≡◌, ◌∙◌, ◌++◌, ℕ, List, [], ◌∷◌, Some, None, Option, refl, sym, ap, ap₂, codes, fold, is_some, length, map, append-nil, append_assoc, true, false}
 use Rattle.std.specs.List.{list_all}
 use Rattle.clap.specs.Faults.{check_fault, defaults_fault, entered_fault, fault_of, level_fault, settle_fault, turn_fault, walk_fault}
 use Rattle.clap.specs.Kinds.{Kinds, or_else}
@@ -8,13 +8,13 @@ use Rattle.clap.specs.Walk.{Names, Row, Rule, Text, Walk, finished, nothing_held
 use Rattle.clap.specs.Words.{is_simple, is_simple_and_free, subcommand_of}
 use Rattle.clap.proofs.FaultLemmas.{stopped_fault}
 use Rattle.clap.proofs.OnLiterals.{clap_on_literals}
-use Rattle.sp_words.specs.App.{four_words, one_word, special_app, three_words, two_words}
+use Rattle.sp_words.specs.App.{four_words, named_word, one_word, special_app, three_words, two_words}
 use Rattle.sp_words.specs.Given.{given_of}
 use Rattle.sp_words.specs.Verb.{arguments_of, name_of}
 use Rattle.sp_words.specs.Words.{is_plain}
 use Rattle.sp_words.specs.declared.verb.Verb.{Verb}
-use Rattle.sp_words.specs.declared.verb.Verb.TheVariants.{Check, Formulas, Prove, Verify, Migrate, Run, Compare}
-use Rattle.sp_words.proofs.Leaves.{Takes, leaf_of, takes_one, takes_two, takes_three, takes_four}
+use Rattle.sp_words.specs.declared.verb.Verb.TheVariants.{Check, Formulas, Prove, Verify, Migrate, Run, Compare, Hierarchy, Sample}
+use Rattle.sp_words.proofs.Leaves.{Takes, an_interface, a_hierarchy, a_size, leaf_of, takes_one, takes_two, takes_three, takes_four}
 
 abbrev app_of_verb : Verb → App
 app_of_verb Check = one_word (name_of Check)
@@ -24,18 +24,22 @@ app_of_verb Verify = two_words (name_of Verify)
 app_of_verb Migrate = two_words (name_of Migrate)
 app_of_verb Run = three_words (name_of Run)
 app_of_verb Compare = four_words (name_of Compare)
+app_of_verb Hierarchy = named_word (codes "H") (name_of Hierarchy)
+app_of_verb Sample = named_word (codes "N") (name_of Sample)
 
 abbrev shape_of_verb : Verb → Shape
 shape_of_verb v = leaf_of (app_of_verb v)
 
 takes : (v : Verb) → Takes (shape_of_verb v) (arguments_of v)
-takes Check = takes_one (name_of Check)
-takes Formulas = takes_one (name_of Formulas)
-takes Prove = takes_one (name_of Prove)
+takes Check = takes_one an_interface (name_of Check)
+takes Formulas = takes_one an_interface (name_of Formulas)
+takes Prove = takes_one an_interface (name_of Prove)
 takes Verify = takes_two (name_of Verify)
 takes Migrate = takes_two (name_of Migrate)
 takes Run = takes_three (name_of Run)
 takes Compare = takes_four (name_of Compare)
+takes Hierarchy = takes_one a_hierarchy (name_of Hierarchy)
+takes Sample = takes_one a_size (name_of Sample)
 
 -- its matches and its faults are those that `clap` promises of a simple command
 pub free : is_simple_and_free special_app ≡ true
@@ -88,6 +92,8 @@ met Verify = refl
 met Migrate = refl
 met Run = refl
 met Compare = refl
+met Hierarchy = refl
+met Sample = refl
 
 turn : (v : Verb) → turn_fault top names start (name_of v) ≡ []
 unfolding clap_on_literals
@@ -98,6 +104,8 @@ turn Verify = refl
 turn Migrate = refl
 turn Run = refl
 turn Compare = refl
+turn Hierarchy = refl
+turn Sample = refl
 
 top_fault : (v : Verb) (ws : List Text) → fault_from (record start { stopped = Some (name_of v, ws) }) [] ≡ or_else (level_fault (shape_of_verb v) [] nothing_held ws false []) []
 unfolding clap_on_literals
@@ -108,6 +116,8 @@ top_fault Verify ws = refl
 top_fault Migrate ws = refl
 top_fault Run ws = refl
 top_fault Compare ws = refl
+top_fault Hierarchy ws = refl
+top_fault Sample ws = refl
 
 entered_is : (v : Verb) (ws : List Text) → entered app (Some (name_of v, ws)) ≡ Some (name_of v, rows_after (shape_of_verb v).rules [] ws)
 unfolding clap_on_literals
@@ -118,6 +128,8 @@ entered_is Verify ws = refl
 entered_is Migrate ws = refl
 entered_is Run ws = refl
 entered_is Compare ws = refl
+entered_is Hierarchy ws = refl
+entered_is Sample ws = refl
 
 verb_fault : (v : Verb) (ws : List Text) → fault_of special_app (name_of v ∷ ws) ≡ or_else (level_fault (shape_of_verb v) [] nothing_held ws false []) []
 verb_fault v ws =

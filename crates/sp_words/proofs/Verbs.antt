@@ -17,7 +17,7 @@ use Rattle.sp_words.specs.Verb.{arguments_of, name_of, verb_of}
 use Rattle.sp_words.specs.Words.{Command, command_of, command_with, is_plain, texts_of}
 use Rattle.sp_words.specs.declared.verb.Verb.{Verb}
 use Rattle.sp_words.specs.declared.words.WordsFault.{WordsFault}
-use Rattle.sp_words.specs.declared.verb.Verb.TheVariants.{Check, Formulas, Prove, Verify, Migrate, Run, Compare}
+use Rattle.sp_words.specs.declared.verb.Verb.TheVariants.{Check, Formulas, Prove, Verify, Migrate, Run, Compare, Hierarchy, Sample}
 use Rattle.sp_words.proofs.Top.{free, simple, verb_given, verb_takes}
 
 -- what `clap` answers of the program's command
@@ -52,19 +52,22 @@ module _ (v : Verb) (words rest : List Text) (is : words ≡ name_of v ∷ rest)
   words_read (Ok m) none rows = ap (given_of (arguments_of v)) rows ∙ words_given none
   words_read (Err fault) none rows = tt
 
-verb_by : (t : Text) (v : Verb) (a b c d e f g : Bool)
+verb_by : (t : Text) (v : Verb) (a b c d e f g h i : Bool)
     → bytes_eq t (codes "check") ≡ a → bytes_eq t (codes "formulas") ≡ b → bytes_eq t (codes "prove") ≡ c → bytes_eq t (codes "verify") ≡ d
-    → bytes_eq t (codes "migrate") ≡ e → bytes_eq t (codes "run") ≡ f → bytes_eq t (codes "compare") ≡ g
-    → cond a (Some Check) (cond b (Some Formulas) (cond c (Some Prove) (cond d (Some Verify) (cond e (Some Migrate) (cond f (Some Run) (cond g (Some Compare) None))))))
+    → bytes_eq t (codes "migrate") ≡ e → bytes_eq t (codes "run") ≡ f → bytes_eq t (codes "compare") ≡ g → bytes_eq t (codes "hierarchy") ≡ h
+    → bytes_eq t (codes "sample") ≡ i
+    → cond a (Some Check) (cond b (Some Formulas) (cond c (Some Prove) (cond d (Some Verify) (cond e (Some Migrate) (cond f (Some Run) (cond g (Some Compare) (cond h (Some Hierarchy) (cond i (Some Sample) None))))))))
     ≡ Some v → t ≡ name_of v
-verb_by t v true b c d e f g p q r s x y z h = let is : Check ≡ v = cc in (bytes_eq-Decides t (codes "check")).0 p ∙ ap name_of is
-verb_by t v false true c d e f g p q r s x y z h = let is : Formulas ≡ v = cc in (bytes_eq-Decides t (codes "formulas")).0 q ∙ ap name_of is
-verb_by t v false false true d e f g p q r s x y z h = let is : Prove ≡ v = cc in (bytes_eq-Decides t (codes "prove")).0 r ∙ ap name_of is
-verb_by t v false false false true e f g p q r s x y z h = let is : Verify ≡ v = cc in (bytes_eq-Decides t (codes "verify")).0 s ∙ ap name_of is
-verb_by t v false false false false true f g p q r s x y z h = let is : Migrate ≡ v = cc in (bytes_eq-Decides t (codes "migrate")).0 x ∙ ap name_of is
-verb_by t v false false false false false true g p q r s x y z h = let is : Run ≡ v = cc in (bytes_eq-Decides t (codes "run")).0 y ∙ ap name_of is
-verb_by t v false false false false false false true p q r s x y z h = let is : Compare ≡ v = cc in (bytes_eq-Decides t (codes "compare")).0 z ∙ ap name_of is
-verb_by t v false false false false false false false p q r s x y z h = cc
+verb_by t v true b c d e f g h i pa pb pc pd pe pf pg ph pi e1 = let is : Check ≡ v = cc in (bytes_eq-Decides t (codes "check")).0 pa ∙ ap name_of is
+verb_by t v false true c d e f g h i pa pb pc pd pe pf pg ph pi e1 = let is : Formulas ≡ v = cc in (bytes_eq-Decides t (codes "formulas")).0 pb ∙ ap name_of is
+verb_by t v false false true d e f g h i pa pb pc pd pe pf pg ph pi e1 = let is : Prove ≡ v = cc in (bytes_eq-Decides t (codes "prove")).0 pc ∙ ap name_of is
+verb_by t v false false false true e f g h i pa pb pc pd pe pf pg ph pi e1 = let is : Verify ≡ v = cc in (bytes_eq-Decides t (codes "verify")).0 pd ∙ ap name_of is
+verb_by t v false false false false true f g h i pa pb pc pd pe pf pg ph pi e1 = let is : Migrate ≡ v = cc in (bytes_eq-Decides t (codes "migrate")).0 pe ∙ ap name_of is
+verb_by t v false false false false false true g h i pa pb pc pd pe pf pg ph pi e1 = let is : Run ≡ v = cc in (bytes_eq-Decides t (codes "run")).0 pf ∙ ap name_of is
+verb_by t v false false false false false false true h i pa pb pc pd pe pf pg ph pi e1 = let is : Compare ≡ v = cc in (bytes_eq-Decides t (codes "compare")).0 pg ∙ ap name_of is
+verb_by t v false false false false false false false true i pa pb pc pd pe pf pg ph pi e1 = let is : Hierarchy ≡ v = cc in (bytes_eq-Decides t (codes "hierarchy")).0 ph ∙ ap name_of is
+verb_by t v false false false false false false false false true pa pb pc pd pe pf pg ph pi e1 = let is : Sample ≡ v = cc in (bytes_eq-Decides t (codes "sample")).0 pi ∙ ap name_of is
+verb_by t v false false false false false false false false false pa pb pc pd pe pf pg ph pi e1 = cc
 
 -- the words of a command stand behind its name
 module _ {A : Type 0} where
@@ -72,7 +75,7 @@ module _ {A : Type 0} where
       → list_all is_plain (texts_of (take (length ws - 1) (drop 1 ws))) ≡ true → (rest : List Text) × (texts_of ws ≡ name_of v ∷ rest) × (list_all is_plain rest ≡ true)
   form_of [] s t v le is text verb plain = absurd (omega arith)
   form_of (w ∷ ws) s t v le is text verb plain =
-      let first : string_bytes w ≡ name_of v = ap string_bytes (sym is) ∙ sym text ∙ verb_by t v _ _ _ _ _ _ _ refl refl refl refl refl refl refl verb in
+      let first : string_bytes w ≡ name_of v = ap string_bytes (sym is) ∙ sym text ∙ verb_by t v _ _ _ _ _ _ _ _ _ refl refl refl refl refl refl refl refl refl verb in
       let all : take (length (w ∷ ws) - 1) ws ≡ ws = take_all _ ws (omega arith) in
       (texts_of ws, ap (λ x. x ∷ texts_of ws) first, ap (λ us. list_all is_plain (texts_of us)) (sym all) ∙ plain)
 
@@ -106,43 +109,12 @@ given_command Compare (a ∷ b ∷ []) = refl
 given_command Compare (a ∷ b ∷ c ∷ []) = refl
 given_command Compare (a ∷ b ∷ c ∷ d ∷ []) = refl
 given_command Compare (a ∷ b ∷ c ∷ d ∷ e ∷ ws) = refl
-
--- as many words as a verb has arguments are a command
-whole : (v : Verb) (ws : List Text) → length ws ≡ length (arguments_of v) → command_with v ws ≡ None → ⊥
-whole Check [] e none = omega arith
-whole Check (a ∷ []) e none = cc
-whole Check (a ∷ x ∷ ws) e none = omega arith
-whole Formulas [] e none = omega arith
-whole Formulas (a ∷ []) e none = cc
-whole Formulas (a ∷ x ∷ ws) e none = omega arith
-whole Prove [] e none = omega arith
-whole Prove (a ∷ []) e none = cc
-whole Prove (a ∷ x ∷ ws) e none = omega arith
-whole Verify [] e none = omega arith
-whole Verify (a ∷ []) e none = omega arith
-whole Verify (a ∷ b ∷ []) e none = cc
-whole Verify (a ∷ b ∷ x ∷ ws) e none = omega arith
-whole Migrate [] e none = omega arith
-whole Migrate (a ∷ []) e none = omega arith
-whole Migrate (a ∷ b ∷ []) e none = cc
-whole Migrate (a ∷ b ∷ x ∷ ws) e none = omega arith
-whole Run [] e none = omega arith
-whole Run (a ∷ []) e none = omega arith
-whole Run (a ∷ b ∷ []) e none = omega arith
-whole Run (a ∷ b ∷ c ∷ []) e none = cc
-whole Run (a ∷ b ∷ c ∷ x ∷ ws) e none = omega arith
-whole Compare [] e none = omega arith
-whole Compare (a ∷ []) e none = omega arith
-whole Compare (a ∷ b ∷ []) e none = omega arith
-whole Compare (a ∷ b ∷ c ∷ []) e none = omega arith
-whole Compare (a ∷ b ∷ c ∷ d ∷ []) e none = cc
-whole Compare (a ∷ b ∷ c ∷ d ∷ x ∷ ws) e none = omega arith
-
-pub given_whole : (v : Verb) (words : List Text) (met : Option (Text × List Row)) → given_of (arguments_of v) met ≡ map Some (drop 1 words)
-    → None ≡ command_given v (given_of (arguments_of v) met) → ⊥
-given_whole v words met e none =
-    whole v (drop 1 words) (sym (length-map (drop 1 words) Some) ∙ ap length (sym e) ∙ length-map (arguments_of v) (λ id. option_and_then (λ p. first_of id p.1) met))
-    (sym (given_command v (drop 1 words)) ∙ sym (none ∙ ap (command_given v) e))
+given_command Hierarchy [] = refl
+given_command Hierarchy (a ∷ []) = refl
+given_command Hierarchy (a ∷ b ∷ ws) = refl
+given_command Sample [] = refl
+given_command Sample (a ∷ []) = refl
+given_command Sample (a ∷ b ∷ ws) = refl
 
 verb_named : (v : Verb) → verb_of (name_of v) ≡ Some v
 verb_named Check = refl
@@ -152,11 +124,14 @@ verb_named Verify = refl
 verb_named Migrate = refl
 verb_named Run = refl
 verb_named Compare = refl
+verb_named Hierarchy = refl
+verb_named Sample = refl
 
-pub command_is : (v : Verb) (words rest : List Text) (given : List (Option Text)) (m : Command) → words ≡ name_of v ∷ rest → list_all is_plain rest ≡ true
-    → given ≡ map Some (drop 1 words) → Some m ≡ command_given v given → command_of words ≡ Some m
+-- what the given words come to is what the words are
+pub command_is : (v : Verb) (words rest : List Text) (given : List (Option Text)) (m : Option Command) → words ≡ name_of v ∷ rest → list_all is_plain rest ≡ true
+    → given ≡ map Some (drop 1 words) → m ≡ command_given v given → command_of words ≡ m
 command_is v words rest given m is plain all one =
-    let with : command_with v rest ≡ Some m =
+    let with : command_with v rest ≡ m =
     sym (given_command v rest) ∙ ap (command_given v) (sym (all ∙ ap (λ ws. map Some (drop 1 ws)) is)) ∙ sym one
     in
     ap command_of is ∙ ap (λ b. cond b (option_and_then (λ u. command_with u rest) (verb_of (name_of v))) None) plain

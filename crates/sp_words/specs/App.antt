@@ -6,8 +6,13 @@ use Rattle.clap.specs.Words.{App, Rule, new_app, new_rule, with_rule, with_subco
 abbrev pub word_rule : List ℕ → Rule
 word_rule name = record (new_rule name) { required = true }
 
+-- a command with one argument, of that name
+abbrev pub named_word : List ℕ → List ℕ → App
+named_word name verb = with_rule (new_app verb) (word_rule name)
+
+-- the commands over an interface take its name first
 abbrev pub one_word : List ℕ → App
-one_word verb = with_rule (new_app verb) (word_rule (codes "I"))
+one_word = named_word (codes "I")
 
 abbrev pub two_words : List ℕ → App
 two_words verb = with_rule (one_word verb) (word_rule (codes "CERT"))
@@ -32,5 +37,9 @@ interfaces_app =
 abbrev pub certificates_app : App
 certificates_app = with_subcommand (with_subcommand interfaces_app (two_words (codes "verify")).top) (two_words (codes "migrate")).top
 
+-- these, and those over scripts
+abbrev pub scripts_app : App
+scripts_app = with_subcommand (with_subcommand certificates_app (three_words (codes "run")).top) (four_words (codes "compare")).top
+
 abbrev pub special_app : App
-special_app = with_subcommand (with_subcommand certificates_app (three_words (codes "run")).top) (four_words (codes "compare")).top
+special_app = with_subcommand (with_subcommand scripts_app (named_word (codes "H") (codes "hierarchy")).top) (named_word (codes "N") (codes "sample")).top

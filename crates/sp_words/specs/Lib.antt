@@ -1,5 +1,6 @@
 pub mod App
 pub mod Given
 pub mod Meant
+pub mod Size
 pub mod Verb
 pub mod Words

@@ -2,7 +2,7 @@
 use Rattle.std.specs.Prelude.{ℕ, List, [], ◌∷◌, Option, Some, None, codes, if◌then◌else◌}
 use Rattle.std.specs.Str.{bytes_eq}
 use Rattle.sp_words.specs.declared.verb.Verb.{Verb}
-use Rattle.sp_words.specs.declared.verb.Verb.TheVariants.{Check, Formulas, Prove, Verify, Migrate, Run, Compare}
+use Rattle.sp_words.specs.declared.verb.Verb.TheVariants.{Check, Formulas, Prove, Verify, Migrate, Run, Compare, Hierarchy, Sample}
 
 abbrev pub name_of : Verb → List ℕ
 name_of Check = codes "check"
@@ -12,6 +12,8 @@ name_of Verify = codes "verify"
 name_of Migrate = codes "migrate"
 name_of Run = codes "run"
 name_of Compare = codes "compare"
+name_of Hierarchy = codes "hierarchy"
+name_of Sample = codes "sample"
 
 -- the verb that a word is, if any
 abbrev pub verb_of : List ℕ → Option Verb
@@ -23,9 +25,11 @@ verb_of word =
     else if bytes_eq word (codes "migrate") then Some Migrate
     else if bytes_eq word (codes "run") then Some Run
     else if bytes_eq word (codes "compare") then Some Compare
+    else if bytes_eq word (codes "hierarchy") then Some Hierarchy
+    else if bytes_eq word (codes "sample") then Some Sample
     else None
 
--- the arguments by the number of words
+-- the arguments, over an interface by the number of words
 abbrev pub one_argument : List (List ℕ)
 one_argument = codes "I" ∷ []
 
@@ -46,3 +50,5 @@ arguments_of Verify = two_arguments
 arguments_of Migrate = two_arguments
 arguments_of Run = three_arguments
 arguments_of Compare = four_arguments
+arguments_of Hierarchy = codes "H" ∷ []
+arguments_of Sample = codes "N" ∷ []

@@ -2,6 +2,7 @@
 #![tactic(auto)]
 
 mod parse;
+mod size;
 mod verb;
 mod words;
 

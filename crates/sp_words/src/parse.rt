@@ -2,7 +2,7 @@ ghost use Rattle.std.specs.Prelude.{◌≡◌, ◌≢◌, [], ◌∷◌, ◌+◌
 ghost use Rattle.std.specs.List.{list_all};
 ghost use Rattle.clap.specs.declared.builder.command.Command.TheViews.{out-Command as fields_of};
 ghost use Rattle.clap.specs.Words.{app_of, fault_of, first_of, subcommand_of, subcommand_rows_of};
-ghost use Rattle.sp_words.specs.App.{certificates_app, four_words, interfaces_app, one_word, special_app, three_words, two_words};
+ghost use Rattle.sp_words.specs.App.{certificates_app, four_words, interfaces_app, named_word, one_word, scripts_app, special_app, three_words, two_words};
 ghost use Rattle.sp_words.specs.Given.{given_of};
 ghost use Rattle.sp_words.specs.Verb.{arguments_of, name_of};
 ghost use Rattle.sp_words.specs.Words.{is_plain, texts_of};
@@ -12,12 +12,20 @@ use clap::error::ErrorKind;
 use clap::{Arg, ArgMatches, Command};
 use std::alloc::{AllocError, Global};
 
+// A command with one argument.
+fn of_one<'a>(alloc: Global, verb: &'a str, name: &'a str) -> Result<Command<'a>, AllocError>
+    ensures app { IfOk result (λ command. app_of command ≡ named_word name.entry.now verb.entry.now) }
+    ensures local { IfOk result (λ command. (fields_of command).has_globals ≡ false) }
+{
+    Command::new(alloc, verb).arg(Arg::new(alloc, name).required(true))
+}
+
 // A command over an interface.
 fn of_interface<'a>(alloc: Global, verb: &'a str) -> Result<Command<'a>, AllocError>
     ensures app { IfOk result (λ command. app_of command ≡ one_word verb.entry.now) }
     ensures local { IfOk result (λ command. (fields_of command).has_globals ≡ false) }
 {
-    Command::new(alloc, verb).arg(Arg::new(alloc, "I").required(true))
+    of_one(alloc, verb, "I")
 }
 
 // A command over an interface and certificates.
@@ -66,13 +74,22 @@ fn with_certificates<'a>(alloc: Global) -> Result<Command<'a>, AllocError>
         .subcommand(of_certificates(alloc, "migrate")?)
 }
 
-// What the program takes.
-fn special_command<'a>(alloc: Global) -> Result<Command<'a>, AllocError>
-    ensures { IfOk result (λ command. app_of command ≡ special_app) }
+// These, and those over scripts.
+fn with_scripts<'a>(alloc: Global) -> Result<Command<'a>, AllocError>
+    ensures { IfOk result (λ command. app_of command ≡ scripts_app) }
 {
     with_certificates(alloc)?
         .subcommand(of_script(alloc, "run")?)?
         .subcommand(of_level(alloc, "compare")?)
+}
+
+// What the program takes.
+fn special_command<'a>(alloc: Global) -> Result<Command<'a>, AllocError>
+    ensures { IfOk result (λ command. app_of command ≡ special_app) }
+{
+    with_scripts(alloc)?
+        .subcommand(of_one(alloc, "hierarchy", "H")?)?
+        .subcommand(of_one(alloc, "sample", "N")?)
 }
 
 // What `clap` finds in the words.

@@ -11,6 +11,8 @@ pub enum Verb {
     Migrate,
     Run,
     Compare,
+    Hierarchy,
+    Sample,
 }
 
 impl Verb {
@@ -38,6 +40,12 @@ impl Verb {
         }
         if word == "compare" {
             return Some(Verb::Compare);
+        }
+        if word == "hierarchy" {
+            return Some(Verb::Hierarchy);
+        }
+        if word == "sample" {
+            return Some(Verb::Sample);
         }
         None
     }

@@ -4,10 +4,11 @@ ghost use Rattle.clap.specs.Words.{subcommand_rows_of};
 ghost use Rattle.sp_words.specs.Given.{command_given, given_of};
 ghost use Rattle.sp_words.specs.Meant.{command_meant};
 ghost use Rattle.sp_words.specs.Verb.{arguments_of};
-ghost use Rattle.sp_words.specs.Words.{command_of, is_no_line_feed, is_plain, texts_of};
+ghost use Rattle.sp_words.specs.Words.{IsSized, command_of, is_no_line_feed, is_plain, texts_of};
 
 use crate::Verb;
 use crate::parse::{arguments, value_of};
+use crate::size::size_of;
 use clap::ArgMatches;
 use std::alloc::Global;
 
@@ -49,6 +50,14 @@ pub enum Command<'a> {
         script: &'a str,
         level: &'a str,
     },
+    /// The verdicts of all interfaces and mappings of a hierarchy.
+    Hierarchy {
+        hierarchy: &'a str,
+    },
+    /// The verdict of a sample of that size.
+    Sample {
+        size: u32,
+    },
 }
 
 /// Why words are no command.
@@ -64,6 +73,7 @@ pub enum WordsFault {
 pub fn read_words<'a>(alloc: Global, words: &'a [String]) -> Result<Command<'a>, WordsFault>
     ensures command { IfOk result (λ command. command_of (texts_of words.entry.now) ≡ Some (command_meant command)) }
     ensures refused { IsErrOf result WordsFault.Words → command_of (texts_of words.entry.now) ≡ None }
+    ensures sized { IfOk result (λ command. IsSized (command_meant command)) }
 {
     let [first, ..] = words else {
         return Err(WordsFault::Words);
@@ -77,7 +87,7 @@ pub fn read_words<'a>(alloc: Global, words: &'a [String]) -> Result<Command<'a>,
     let matches = arguments(alloc, verb, words)?;
     match command_in(verb, &matches) {
         Some(command) => Ok(command),
-        None => unreachable!(),
+        None => Err(WordsFault::Words),
     }
 }
 
@@ -85,29 +95,40 @@ pub fn read_words<'a>(alloc: Global, words: &'a [String]) -> Result<Command<'a>,
 fn command_in<'a>(verb: Verb, matches: &ArgMatches<'a>) -> Option<Command<'a>>
     ensures { option_map command_meant result ≡ command_given verb (given_of (arguments_of verb) (subcommand_rows_of matches.now)) }
 {
-    let interface = value_of(matches, "I")?;
     match verb {
-        Verb::Check => Some(Command::Check { interface }),
-        Verb::Formulas => Some(Command::Formulas { interface }),
-        Verb::Prove => Some(Command::Prove { interface }),
+        Verb::Check => Some(Command::Check {
+            interface: value_of(matches, "I")?,
+        }),
+        Verb::Formulas => Some(Command::Formulas {
+            interface: value_of(matches, "I")?,
+        }),
+        Verb::Prove => Some(Command::Prove {
+            interface: value_of(matches, "I")?,
+        }),
         Verb::Verify => Some(Command::Verify {
-            interface,
+            interface: value_of(matches, "I")?,
             certificates: value_of(matches, "CERT")?,
         }),
         Verb::Migrate => Some(Command::Migrate {
-            interface,
+            interface: value_of(matches, "I")?,
             certificates: value_of(matches, "CERT")?,
         }),
         Verb::Run => Some(Command::Run {
-            interface,
+            interface: value_of(matches, "I")?,
             instance: value_of(matches, "INST")?,
             script: value_of(matches, "SCRIPT")?,
         }),
         Verb::Compare => Some(Command::Compare {
-            interface,
+            interface: value_of(matches, "I")?,
             instance: value_of(matches, "INST")?,
             script: value_of(matches, "SCRIPT")?,
             level: value_of(matches, "LEVEL")?,
+        }),
+        Verb::Hierarchy => Some(Command::Hierarchy {
+            hierarchy: value_of(matches, "H")?,
+        }),
+        Verb::Sample => Some(Command::Sample {
+            size: size_of(value_of(matches, "N")?)?,
         }),
     }
 }

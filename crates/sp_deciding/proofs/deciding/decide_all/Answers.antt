@@ -6,8 +6,8 @@ use Rattle.sp_deciding.proofs.Lines.{typed_at}
 use Rattle.sp_deciding.proofs.Progress.{First, all_decided, next_decided, next_stops}
 use Rattle.sp_deciding.proofs.deciding.decide_all.Goals as goal
 
-pub decided-requires-clause-typed : goal.decided-requires-clause-typed
-decided-requires-clause-typed c = typed_at (IsTypedFormula c.args.spec.now) c.args.formulas.now c.loop-k.k c.index-formulas-k.result c.requires.typed (omega arith) c.index-formulas-k.is
+pub decided_at-requires-clause-typed : goal.decided_at-requires-clause-typed
+decided_at-requires-clause-typed c = typed_at (IsTypedFormula c.args.spec.now) c.args.formulas.now c.loop-k.k c.index-formulas-k.result c.requires.typed (omega arith) c.index-formulas-k.is
 
 pub returns-in_err-decision : goal.returns-in_err-decision
 returns-in_err-decision c =
@@ -16,7 +16,7 @@ returns-in_err-decision c =
 
 pub loop-k-preserved : goal.loop-k-preserved
 loop-k-preserved c = (
-  ap length c.decided.ensures.pool ∙ c.loop-k.invariant.0,
+  ap length c.decided_at.ensures.pool ∙ c.loop-k.invariant.0,
   subst (First (option_copied c.args.owner) c.args.spec.now (map formula_as c.args.formulas.now) (c.loop-k.k + 1 + 1) (map formula_as (drop (c.loop-k.k + 1) c.args.formulas.now))) (sym c.in_ok-push.ensures.items)
       (next_decided (option_copied c.args.owner) c.args.spec.now c.args.formulas.now c.loop-k.k c.loop-k.all.items c.index-formulas-k.result c.in_ok-decision.decision (omega arith) c.index-formulas-k.is c.loop-k.invariant.1 c.in_ok-decision.ensures.does),
 )

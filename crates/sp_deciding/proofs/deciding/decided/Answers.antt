@@ -3,7 +3,7 @@ use Rattle.sp_sequent.specs.Claims.{claim_of, question_of}
 use Rattle.sp_prover.specs.Deciding.{Decides}
 use Rattle.sp_deciding.proofs.deciding.decided.Goals as goal
 
-pub returns-in-Ok-Right-clause-does : goal.returns-in-Ok-Right-clause-does
-returns-in-Ok-Right-clause-does c =
+pub returns-in-Ok-Right-clause-decision : goal.returns-in-Ok-Right-clause-decision
+returns-in-Ok-Right-clause-decision c =
     let first = subst (Decides (question_of c.args.spec.now (claim_of c.args.formula.now))) c.in-Ok-Right.field-0-is c.in-Ok-Right.ensures.decides in
-    ((c.in-Ok-Right.branch, first, sym c.new.ensures), c.in-Ok-Right.ensures.few)
+    (c.in-Ok-Right.branch, first, sym c.new.ensures)

@@ -1,0 +1,5 @@
+pub mod Lawful
+pub mod Named
+pub mod Meant
+pub mod Known
+pub mod Places

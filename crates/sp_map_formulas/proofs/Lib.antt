@@ -1,0 +1,2 @@
+mod Nexts
+pub mod TypedRows

@@ -1,0 +1,4 @@
+//! What a mapping promises: its views hide what is above.
+#![tactic(auto)]
+
+pub mod laws;

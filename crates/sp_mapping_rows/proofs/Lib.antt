@@ -1,0 +1,4 @@
+mod Kept
+mod Arguments
+mod Lists
+mod Scoped

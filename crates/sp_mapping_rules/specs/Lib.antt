@@ -1,0 +1,9 @@
+pub mod Lower
+pub mod Lattices
+pub mod Types
+pub mod Levels
+pub mod Rows
+pub mod Parameters
+pub mod Functions
+pub mod Mappings
+pub mod Upper

@@ -1,0 +1,8 @@
+use Rattle.std.proofs.Common.{◌≡◌, ◌++◌}
+use Rattle.sp_sample.specs.Interface.{levels_text}
+use Rattle.sp_sample.specs.Pieces.{each_below}
+use Rattle.sp_sample.proofs.interface.push_all_levels.Given as goal
+
+-- the texts of the numbers so far are appended
+abbrev pub invariant-loop-k : goal.invariant-loop-k
+invariant-loop-k l = l.out.items ≡ l.initial.out.items ++ each_below levels_text l.k

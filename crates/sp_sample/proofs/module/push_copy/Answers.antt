@@ -1,0 +1,5 @@
+use Rattle.sp_sample.proofs.Joined.{joined, two_joined}
+use Rattle.sp_sample.proofs.module.push_copy.Goals as goal
+
+pub returns : goal.returns
+returns c = two_joined c.push_numbered-3.result _ _ _ _ (joined _ _ _ _ _ c.in_ok-push_numbered.ensures c.in_ok-push_numbered-2.ensures) _ c.push_numbered-3.ensures

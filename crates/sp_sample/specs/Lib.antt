@@ -1,0 +1,4 @@
+pub mod Pieces
+pub mod Module
+pub mod Interface
+pub mod Instance

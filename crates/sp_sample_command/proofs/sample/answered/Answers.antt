@@ -1,0 +1,37 @@
+use Rattle.std.proofs.Common.{◌≤◌, List, None, length, subst, sym}
+use Rattle.sp_text.specs.declared.limits.TheConstants.{MOST_FORMULAS}
+use Rattle.sp_sequent.specs.declared.formula.Formula.{Formula as Made}
+use Rattle.std.proofs.lemmas.Result.{err_from_is_err_and}
+use Rattle.sp_frame.proofs.Connective.{prints_refused}
+use Rattle.sp_frame.specs.Steps.{Gives, Then}
+use Rattle.sp_frame.specs.Uncertified.{spells}
+use Rattle.sp_formula_list.specs.Listed.{FormulasListed}
+use Rattle.sp_deciding.specs.Decided.{AllDecided}
+use Rattle.sp_sample_command.specs.Summary.{sample_answer}
+use Rattle.sp_sample_command.proofs.Printing.{answered, undecided}
+use Rattle.sp_check_command.proofs.Printing.{closed}
+use Rattle.sp_sample_command.proofs.sample.answered.Goals as goal
+
+pub decide_all-requires-clause-few : goal.decide_all-requires-clause-few
+decide_all-requires-clause-few c = subst (λ (fs : List Made). length fs ≤ MOST_FORMULAS) (sym c.items.ensures) c.in_ok-formulas.ensures.few
+
+pub told-requires-clause-closed : goal.told-requires-clause-closed
+told-requires-clause-closed c =
+    closed None c.args.spec c.in_ok-formulas.formulas c.items.result.now c.items-2.result.now c.in_ok-decisions.decisions c.items-3.result.now c.items.ensures c.items-2.ensures c.items-3.ensures
+    c.in_ok-decisions.ensures
+
+pub returns : goal.returns
+returns c =
+    answered c.args.size c.args.spec c.in_ok-formulas.formulas c.items.result.now c.items-2.result.now c.in_ok-decisions.decisions c.items-3.result.now c.told.result c.items.ensures c.items-2.ensures c.items-3.ensures
+    c.in_ok-formulas.ensures.does c.in_ok-decisions.ensures c.told.ensures
+
+pub returns-in_err-formulas : goal.returns-in_err-formulas
+returns-in_err-formulas c =
+    let e = err_from_is_err_and c.from_residual.result c.from_residual.ensures.1 in
+    rw (e.1, e.2)
+    (prints_refused spells (FormulasListed None c.args.spec) (λ os. Then (AllDecided None c.args.spec 1 os) (λ ds. Gives (sample_answer c.args.size c.args.spec os ds))) _ c.in_err-formulas.ensures.does)
+
+pub returns-in_err-decisions : goal.returns-in_err-decisions
+returns-in_err-decisions c =
+    let e = err_from_is_err_and c.from_residual-in_err-decisions.result c.from_residual-in_err-decisions.ensures.1 in
+    rw (e.1, e.2) (undecided c.args.size c.args.spec c.in_ok-formulas.formulas c.items.result.now _ c.items.ensures c.in_ok-formulas.ensures.does c.in_err-decisions.ensures)

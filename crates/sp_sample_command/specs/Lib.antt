@@ -1,0 +1,4 @@
+pub mod Texts
+pub mod Summary
+pub mod Sample
+pub mod Secure

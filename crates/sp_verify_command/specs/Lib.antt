@@ -1,0 +1,4 @@
+pub mod Judged
+pub mod Verify
+pub mod Migrate
+pub mod Laws

@@ -14,9 +14,10 @@ use Rattle.sp_frame.specs.declared.status.Status.TheVariants as status
 use Rattle.sp_frame.specs.Endings.{Answer, Ending, Prints, Reports, answered, refused, verdict_of}
 use Rattle.sp_frame.specs.Status.{IsFailure, is_reported}
 use Rattle.sp_check_command.specs.Secure.{IsSecureInterface}
+use Rattle.sp_headline.specs.Lines.{HoldsAccepted}
 use Rattle.sp_driver.specs.Certified.{Certified, spells}
 use Rattle.sp_driver.specs.Report.{Ends}
-use Rattle.sp_driver.specs.Shown.{BeginsInterface, EndsAccepted, IsAppended}
+use Rattle.sp_driver.specs.Shown.{BeginsInterface, IsAppended}
 use Rattle.sp_driver.specs.Words.{Command, check, command_of, prove, verify}
 
 -- the bytes of the report were written, and this is its status
@@ -58,10 +59,10 @@ module _ (words : List (List ℕ)) where
   abbrev pub AcceptsSecure : Files → Type 0
   AcceptsSecure files = (interface : List ℕ) → option_and_then asked (command_of words) ≡ Some interface → IsSecureInterface interface files
 
-  -- it is secure where lines were written that begin with INTERFACE, and of which the last begins with ACCEPTED
+  -- it is secure where bytes were written that begin with INTERFACE, and hold a line that begins with ACCEPTED
   abbrev pub ShowsSecure : Option (List ℕ) → Option (List ℕ) → Files → Type 0
   ShowsSecure before now files =
-      (interface bytes : List ℕ) → option_and_then asked_in_lines (command_of words) ≡ Some interface → IsAppended before now bytes → BeginsInterface bytes → EndsAccepted bytes
+      (interface bytes : List ℕ) → option_and_then asked_in_lines (command_of words) ≡ Some interface → IsAppended before now bytes → BeginsInterface bytes → HoldsAccepted bytes
       → IsSecureInterface interface files
 
   -- ---- causes

@@ -14,6 +14,7 @@ use crate::perform::perform;
 use crate::words::read_words;
 use sp_check_command::accepted_law;
 use sp_frame::{Failure, Report, Status, report_of, words_text};
+use sp_headline::{checked_lines_law, verified_lines_law};
 use sp_outside::{Library, Sink};
 use sp_prove_command::{checked_law, proved_law};
 use sp_verify_command::verified_law;
@@ -26,8 +27,8 @@ pub fn run<L: Library, S: Sink>(alloc: Global, words: &[String], lib: &mut L, ou
     ensures reported { IsTrue (is_reported result) → IfSome (L.told lib.old) (Reported (texts_of words.now) result (S.told out.old) (S.told out.new)) }
     ensures determined { IfSome (L.told lib.old) (IsDetermined (texts_of words.now) result (S.told out.old) (S.told out.new)) }
 
-    // What is accepted is secure: where `check`, `prove` or `verify` ends with Ok; and by the bytes that are written, where lines
-    // of `check` or `verify` end with one that begins with ACCEPTED.
+    // What is accepted is secure: where `check`, `prove` or `verify` ends with Ok; and by the bytes that are written, where a
+    // report of `check` or `verify` holds a line that begins with ACCEPTED.
     ensures accepted { result ≡ Status.Ok → IfSome (L.told lib.old) (AcceptsSecure (texts_of words.now)) }
     ensures shown { IsTrue (is_reported result) → IfSome (L.told lib.old) (ShowsSecure (texts_of words.now) (S.told out.old) (S.told out.new)) }
 
@@ -57,6 +58,8 @@ pub fn run<L: Library, S: Sink>(alloc: Global, words: &[String], lib: &mut L, ou
     proved_law();
     checked_law();
     verified_law();
+    checked_lines_law();
+    verified_lines_law();
     let ended = report(alloc, words, lib);
     deliver(ended, out)
 }

@@ -107,5 +107,6 @@ fn built<'a>(form: Form<'a>) -> Option<Command<'a>>
             script,
             level,
         }),
+        Form::Hierarchy { .. } | Form::Sample { .. } => None,
     }
 }

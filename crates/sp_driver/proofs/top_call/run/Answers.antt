@@ -24,5 +24,5 @@ returns-clause-accepted g c = λ ok.
 
 pub returns-clause-shown : goal.returns-clause-shown
 returns-clause-shown g c = λ t.
-    shows c.accepted_law.ensures c.proved_law.ensures c.checked_law.ensures c.verified_law.ensures (texts_of c.args.words.now) _ _ _ _
+    shows c.checked_lines_law.ensures c.verified_lines_law.ensures (texts_of c.args.words.now) _ _ _ _
     (causes.reported c.command_law.ensures (texts_of c.args.words.now) _ _ _ _ c.report-ended.result c.report-ended.ensures.reports c.deliver.ensures.whole) t

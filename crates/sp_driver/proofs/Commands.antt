@@ -3,25 +3,35 @@ use Rattle.std.proofs.Common.{◌≡◌, ◌∙◌, ℕ, List, Option, Some, Non
 use Rattle.sp_outside.specs.Files.{Files}
 use Rattle.sp_frame.specs.Endings.{Ending, ending_of}
 use Rattle.sp_frame.specs.Laws.{IsLawful}
+use Rattle.sp_frame.proofs.Uncertified.{widened_lawful}
 use Rattle.sp_check_command.specs.Check.{CheckDone}
 use Rattle.sp_formulas_command.specs.Formulas.{FormulasDone}
+use Rattle.sp_prove_command.specs.Prove.{ProveDone}
+use Rattle.sp_verify_command.specs.Migrate.{MigrateDone}
+use Rattle.sp_verify_command.specs.Verify.{VerifyDone}
 use Rattle.sp_run_command.specs.Run.{RunDone}
 use Rattle.sp_compare_command.specs.Compare.{CompareDone}
 use Rattle.sp_driver.specs.Certified.{Certified}
 use Rattle.sp_driver.specs.Laws.{CommandLaw}
 use Rattle.sp_driver.specs.Report.{CommandDone, Ends, EndsAs}
-use Rattle.sp_driver.specs.Words.{Command, check, command_of, compare, formulas, run}
+use Rattle.sp_driver.specs.Words.{Command, check, command_of, compare, formulas, migrate, prove, run, verify}
 
 -- the law of all commands, from that of each
 module _ (files : Files) (of_check : (interface : List ℕ) → IsLawful files (CheckDone interface files))
     (of_formulas : (interface : List ℕ) → IsLawful files (FormulasDone interface files))
+    (of_prove : (interface : List ℕ) → IsLawful files (ProveDone interface files))
+    (of_verify : (interface certs : List ℕ) → IsLawful files (VerifyDone interface certs files))
+    (of_migrate : (interface certs : List ℕ) → IsLawful files (MigrateDone interface certs files))
     (of_run : (interface instance script : List ℕ) → IsLawful files (RunDone interface instance script files))
     (of_compare : (interface instance script level : List ℕ) → IsLawful files (CompareDone interface instance script level files)) where
   pub lawful : (command : Command) → IsLawful files (CommandDone command files)
-  lawful (check interface) = of_check interface
-  lawful (formulas interface) = of_formulas interface
-  lawful (run interface instance script) = of_run interface instance script
-  lawful (compare interface instance script level) = of_compare interface instance script level
+  lawful (check interface) = widened_lawful files _ (of_check interface)
+  lawful (formulas interface) = widened_lawful files _ (of_formulas interface)
+  lawful (prove interface) = of_prove interface
+  lawful (verify interface certs) = widened_lawful files _ (of_verify interface certs)
+  lawful (migrate interface certs) = widened_lawful files _ (of_migrate interface certs)
+  lawful (run interface instance script) = widened_lawful files _ (of_run interface instance script)
+  lawful (compare interface instance script level) = widened_lawful files _ (of_compare interface instance script level)
 
 module _ (law : CommandLaw) (files : Files) where
   ends_once : (command : Option Command) (e f : Ending Certified) → EndsAs command files e → EndsAs command files f → e ≡ f

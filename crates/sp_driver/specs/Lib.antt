@@ -3,4 +3,5 @@ pub mod Laws
 pub mod Meant
 pub mod Report
 pub mod Run
+pub mod Shown
 pub mod Words

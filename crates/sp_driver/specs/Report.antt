@@ -3,19 +3,26 @@ use Rattle.std.specs.Prelude.{◌≡◌, ℕ, List, Option, Some, None}
 use Rattle.sp_outside.specs.Files.{Files}
 use Rattle.sp_frame.specs.Endings.{Answer, Ending, EndsBy, no_command}
 use Rattle.sp_frame.specs.Steps.{Step}
+use Rattle.sp_frame.specs.Uncertified.{Widened}
 use Rattle.sp_check_command.specs.Check.{CheckDone}
 use Rattle.sp_formulas_command.specs.Formulas.{FormulasDone}
 use Rattle.sp_run_command.specs.Run.{RunDone}
 use Rattle.sp_compare_command.specs.Compare.{CompareDone}
+use Rattle.sp_prove_command.specs.Prove.{ProveDone}
+use Rattle.sp_verify_command.specs.Migrate.{MigrateDone}
+use Rattle.sp_verify_command.specs.Verify.{VerifyDone}
 use Rattle.sp_driver.specs.Certified.{Certified}
-use Rattle.sp_driver.specs.Words.{Command, check, command_of, compare, formulas, run}
+use Rattle.sp_driver.specs.Words.{Command, check, command_of, compare, formulas, migrate, prove, run, verify}
 
 -- the work of a command
 abbrev pub CommandDone : Command → Files → Step (Answer Certified)
-CommandDone (check interface) = CheckDone interface
-CommandDone (formulas interface) = FormulasDone interface
-CommandDone (run interface instance script) = RunDone interface instance script
-CommandDone (compare interface instance script level) = CompareDone interface instance script level
+CommandDone (check interface) files = Widened (CheckDone interface files)
+CommandDone (formulas interface) files = Widened (FormulasDone interface files)
+CommandDone (prove interface) files = ProveDone interface files
+CommandDone (verify interface certificates) files = Widened (VerifyDone interface certificates files)
+CommandDone (migrate interface certificates) files = Widened (MigrateDone interface certificates files)
+CommandDone (run interface instance script) files = Widened (RunDone interface instance script files)
+CommandDone (compare interface instance script level) files = Widened (CompareDone interface instance script level files)
 
 -- the end of a command, and of words that may be none
 abbrev pub EndsAs : Option Command → Files → Ending Certified → Type 0

@@ -2,11 +2,14 @@
 use Rattle.std.specs.Prelude.{ℕ, List, Option, Some, None, option_and_then}
 use Rattle.sp_words.specs.Words as forms
 
--- `check` and `formulas` with the name of an interface; `run` with the names of an interface, an instance and a script; `compare` with the word
--- of a level too
+-- `check`, `formulas` and `prove` with the name of an interface; `verify` and `migrate` with the names of an interface and of certificates; `run`
+-- with the names of an interface, an instance and a script; `compare` with the word of a level too
 pub data Command : Type 0 where
   check : List ℕ → Command
   formulas : List ℕ → Command
+  prove : List ℕ → Command
+  verify : List ℕ → List ℕ → Command
+  migrate : List ℕ → List ℕ → Command
   run : List ℕ → List ℕ → List ℕ → Command
   compare : List ℕ → List ℕ → List ℕ → List ℕ → Command
 
@@ -14,9 +17,9 @@ pub data Command : Type 0 where
 abbrev pub built : forms.Command → Option Command
 built (forms.check interface) = Some (check interface)
 built (forms.formulas interface) = Some (formulas interface)
-built (forms.prove interface) = None
-built (forms.verify interface certificates) = None
-built (forms.migrate interface certificates) = None
+built (forms.prove interface) = Some (prove interface)
+built (forms.verify interface certificates) = Some (verify interface certificates)
+built (forms.migrate interface certificates) = Some (migrate interface certificates)
 built (forms.run interface instance script) = Some (run interface instance script)
 built (forms.compare interface instance script level) = Some (compare interface instance script level)
 built (forms.hierarchy whole) = None

@@ -6,6 +6,6 @@ mod perform;
 mod top_call;
 mod words;
 
-pub use laws::{command_law, one_ending};
+pub use laws::{command_law, one_ending, printed_law};
 pub use sp_frame::Status;
 pub use top_call::run;

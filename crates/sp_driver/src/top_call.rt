@@ -5,7 +5,7 @@ ghost use Rattle.sp_outside.specs.Causes.{Rose};
 ghost use Rattle.sp_outside.specs.Written.{Appends, AppendsPrefix};
 ghost use Rattle.sp_frame.specs.Status.{is_reported};
 ghost use Rattle.sp_driver.specs.Report.{Ends, IsLoading};
-ghost use Rattle.sp_driver.specs.Run.{AcceptsSecure, CutShort, HasReport, IsCaused, IsDetermined, IsWritten, Reported};
+ghost use Rattle.sp_driver.specs.Run.{AcceptsSecure, CutShort, HasReport, IsCaused, IsDetermined, IsWritten, Reported, ShowsSecure};
 ghost use Rattle.sp_words.specs.Words.{texts_of};
 ghost use Rattle.sp_driver.specs.Words.{command_of};
 
@@ -14,7 +14,10 @@ use crate::perform::perform;
 use crate::words::read_words;
 use sp_check_command::accepted_law;
 use sp_frame::{Failure, Report, Status, report_of, words_text};
+use sp_headline::{checked_lines_law, verified_lines_law};
 use sp_outside::{Library, Sink};
+use sp_prove_command::{checked_law, proved_law};
+use sp_verify_command::verified_law;
 use sp_words::WordsFault;
 use std::alloc::Global;
 
@@ -24,8 +27,10 @@ pub fn run<L: Library, S: Sink>(alloc: Global, words: &[String], lib: &mut L, ou
     ensures reported { IsTrue (is_reported result) → IfSome (L.told lib.old) (Reported (texts_of words.now) result (S.told out.old) (S.told out.new)) }
     ensures determined { IfSome (L.told lib.old) (IsDetermined (texts_of words.now) result (S.told out.old) (S.told out.new)) }
 
-    // What is accepted is secure: of a check that ends with Ok, whose last line says ACCEPTED.
+    // What is accepted is secure: where `check`, `prove` or `verify` ends with Ok; and by the bytes that are written, where a
+    // report of `check` or `verify` holds a line that begins with ACCEPTED.
     ensures accepted { result ≡ Status.Ok → IfSome (L.told lib.old) (AcceptsSecure (texts_of words.now)) }
+    ensures shown { IsTrue (is_reported result) → IfSome (L.told lib.old) (ShowsSecure (texts_of words.now) (S.told out.old) (S.told out.new)) }
 
     // Each status comes exactly where its cause is.
     ensures caused { IfSome (L.told lib.old) (IsCaused (texts_of words.now) result) }
@@ -50,6 +55,11 @@ pub fn run<L: Library, S: Sink>(alloc: Global, words: &[String], lib: &mut L, ou
 {
     command_law();
     accepted_law();
+    proved_law();
+    checked_law();
+    verified_law();
+    checked_lines_law();
+    verified_lines_law();
     let ended = report(alloc, words, lib);
     deliver(ended, out)
 }

@@ -21,6 +21,20 @@ pub enum Command<'a> {
     Formulas {
         interface: &'a str,
     },
+    /// The certificates.
+    Prove {
+        interface: &'a str,
+    },
+    /// The verdict of each certificate.
+    Verify {
+        interface: &'a str,
+        certificates: &'a str,
+    },
+    /// The certificates in the second format.
+    Migrate {
+        interface: &'a str,
+        certificates: &'a str,
+    },
     /// The answers of a script.
     Run {
         interface: &'a str,
@@ -58,6 +72,21 @@ fn built<'a>(form: Form<'a>) -> Option<Command<'a>>
     match form {
         Form::Check { interface } => Some(Command::Check { interface }),
         Form::Formulas { interface } => Some(Command::Formulas { interface }),
+        Form::Prove { interface } => Some(Command::Prove { interface }),
+        Form::Verify {
+            interface,
+            certificates,
+        } => Some(Command::Verify {
+            interface,
+            certificates,
+        }),
+        Form::Migrate {
+            interface,
+            certificates,
+        } => Some(Command::Migrate {
+            interface,
+            certificates,
+        }),
         Form::Run {
             interface,
             instance,
@@ -78,6 +107,6 @@ fn built<'a>(form: Form<'a>) -> Option<Command<'a>>
             script,
             level,
         }),
-        _ => None,
+        Form::Hierarchy { .. } | Form::Sample { .. } => None,
     }
 }

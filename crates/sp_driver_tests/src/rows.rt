@@ -1,12 +1,12 @@
 use crate::given::{Files, outcome_of};
 use std::test::Fail;
 
-const FILES: &[u8] = b"INTERFACE files MODULES files;
+pub const FILES: &[u8] = b"INTERFACE files MODULES files;
 LATTICE LOW, HIGH; ORDER LOW < HIGH;
 LEVEL data(f) IS cls(f); LEVEL read(u, f) IS clr(u); LEVEL write(u, f, x) IS clr(u);
 SAMPLE small; END_INTERFACE";
 
-const GUARDED: &[u8] = b"MODULE files
+pub const GUARDED: &[u8] = b"MODULE files
 TYPES user: DESIGNATOR; file: DESIGNATOR;
 PARAMETERS LEVEL clr(user u); LEVEL cls(file f);
 FUNCTIONS
@@ -15,7 +15,7 @@ OVFUN read(user u; file f) -> INTEGER r; EXCEPTIONS no_read: NOT cls(f) <= clr(u
 OFUN write(user u; file f; INTEGER x); EXCEPTIONS no_write: NOT clr(u) <= cls(f); EFFECTS 'data(f) = x;
 END_MODULE";
 
-const LEAKY: &[u8] = b"MODULE files
+pub const LEAKY: &[u8] = b"MODULE files
 TYPES user: DESIGNATOR; file: DESIGNATOR;
 PARAMETERS LEVEL clr(user u); LEVEL cls(file f);
 FUNCTIONS
@@ -24,7 +24,7 @@ OVFUN read(user u; file f) -> INTEGER r; EXCEPTIONS no_read: NOT cls(f) <= clr(u
 OFUN write(user u; file f; INTEGER x); EFFECTS 'data(f) = x;
 END_MODULE";
 
-const SMALL: &[u8] = b"INSTANCE small
+pub const SMALL: &[u8] = b"INSTANCE small
 POPULATION user = {alice, bob}; POPULATION file = {memo, plan};
 PARAMETER clr: (alice) = HIGH; OTHERWISE LOW;
 PARAMETER cls: (plan) = HIGH; OTHERWISE LOW;
@@ -55,7 +55,7 @@ const ACCEPTED: &[u8] = b"INTERFACE files
 ACCEPTED 2 formulas
 ";
 
-const REFUSED: &[u8] = b"INTERFACE files
+pub const REFUSED: &[u8] = b"INTERFACE files
 1 read result-reference PROVED
 2 write change OPEN
   u = ? FALSE

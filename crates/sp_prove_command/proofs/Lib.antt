@@ -1,0 +1,7 @@
+mod Beside
+mod Found
+mod Kept
+pub mod Lawful
+mod Printing
+mod Progress
+mod Specified

@@ -1,0 +1,5 @@
+use Rattle.sp_frame.proofs.Connective.{prints_after}
+use Rattle.sp_prove_command.proofs.prove.prove_work.Goals as goal
+
+pub returns : goal.returns
+returns c = prints_after _ _ _ c.in_ok-elaborated.elaborated _ c.in_ok-elaborated.ensures c.answered.ensures

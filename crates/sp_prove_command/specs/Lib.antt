@@ -1,0 +1,4 @@
+pub mod Certificates
+pub mod Kept
+pub mod Prove
+pub mod Laws

@@ -1,5 +1,5 @@
 -- Where the bytes that were written begin with INTERFACE and hold a line that begins with ACCEPTED, the interface is secure.
-use Rattle.std.proofs.Common.{◌≡◌, ◌∙◌, ℕ, List, [], ◌∷◌, ◌++◌, Option, Some, None, Result, Ok, Err, IsTrue, ap, refl, sym, subst}
+use Rattle.std.proofs.Common.{◌≡◌, ◌∙◌, ℕ, Bool, true, false, ◌==◌, List, [], ◌∷◌, ◌++◌, Option, Some, None, Result, Ok, Err, IsTrue, ap, refl, sym, subst}
 use Rattle.std.specs.Prelude.{IfSome, codes, option_and_then}
 use Rattle.std.proofs.lemmas.List.{append_cancel_left}
 use Rattle.sp_outside.specs.Files.{Files}
@@ -19,16 +19,29 @@ use Rattle.sp_driver.specs.Shown.{BeginsInterface, IsAppended}
 use Rattle.sp_driver.specs.Words.{Command, check, command_of, compare, formulas, migrate, prove, run, verify}
 use Rattle.sp_driver.proofs.Accepted.{done_of, lines_of}
 
--- a refusal's line doesn't begin with INTERFACE
+first_byte : List ℕ → ℕ
+first_byte [] = 0
+first_byte (b ∷ t) = b
+
+false_true : false ≡ true → ⊥
+false_true e = absurd cc
+
+-- a text of another first letter doesn't begin with INTERFACE
+otherwise : (t rest : List ℕ) → (first_byte t == 73) ≡ false → t ≡ codes "INTERFACE" ++ rest → ⊥
+unfolding first_byte
+otherwise t rest n e = false_true (sym n ∙ ap (λ s. first_byte s == 73) e)
+
+-- a refusal's line doesn't
 never_refused : (r : Refusal) (rest : List ℕ) → refused_line r ≡ codes "INTERFACE" ++ rest → ⊥
-never_refused (refusal.Missing name) rest e = cc
-never_refused (refusal.TooLong name most) rest e = cc
-never_refused refusal.LongWord rest e = cc
-never_refused (refusal.Broken name m) rest e = cc
-never_refused (refusal.BrokenOrder name m first second) rest e = cc
-never_refused (refusal.Exceeded name l) rest e = cc
-never_refused (refusal.NotAdmissible name number) rest e = cc
-never_refused (refusal.Work limit) rest e = cc
+unfolding first_byte
+never_refused (refusal.Missing name) rest e = otherwise (refused_line (refusal.Missing name)) rest refl e
+never_refused (refusal.TooLong name most) rest e = otherwise (refused_line (refusal.TooLong name most)) rest refl e
+never_refused refusal.LongWord rest e = otherwise (refused_line refusal.LongWord) rest refl e
+never_refused (refusal.Broken name m) rest e = otherwise (refused_line (refusal.Broken name m)) rest refl e
+never_refused (refusal.BrokenOrder name m first second) rest e = otherwise (refused_line (refusal.BrokenOrder name m first second)) rest refl e
+never_refused (refusal.Exceeded name l) rest e = otherwise (refused_line (refusal.Exceeded name l)) rest refl e
+never_refused (refusal.NotAdmissible name number) rest e = otherwise (refused_line (refusal.NotAdmissible name number)) rest refl e
+never_refused (refusal.Work limit) rest e = otherwise (refused_line (refusal.Work limit)) rest refl e
 
 module _ (checks : CheckedLinesLaw) (verifies : VerifiedLinesLaw) (interface : List ℕ) (files : Files) where
   -- the report of a command that asks so

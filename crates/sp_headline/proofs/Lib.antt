@@ -1,7 +1,12 @@
 pub mod Texts
+pub mod Prefixes
 pub mod Digits
 pub mod Expressions
 pub mod Named
 pub mod Reports
 pub mod Checked
 pub mod Verified
+pub mod Sampled
+pub mod Refused
+pub mod Refusals
+pub mod Refusing

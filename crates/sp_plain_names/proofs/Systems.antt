@@ -76,7 +76,7 @@ module _ (files : Files) where
 
   -- ---- a system
 
-  record AreRead (x : System) : Type 0 where
+  pub record AreRead (x : System) : Type 0 where
     pub interface : IsTree interfaces x.interface
     pub modules : All (IsTree modules) x.modules
 
@@ -98,7 +98,7 @@ module _ (files : Files) where
     interface_by (Err r) h e = absurd cc
     interface_by (Ok i) h e = modules_by i (read_tree interfaces interface files i h) e.0 e.1 e.2
 
-    system_read : SystemRead interface files (Ok x) → AreRead x
+    pub system_read : SystemRead interface files (Ok x) → AreRead x
     system_read h = interface_by h.0 h.1 h.2
 
 -- ---- what the system stands for

@@ -64,7 +64,9 @@ IsPlainLattice (lattice.Product p chain categories) = All IsPlainIdent chain × 
 
 pub record IsPlainInterface (i : InterfaceTree) : Type 0 where
   pub name : IsPlain i.name.name
+  pub modules : All IsPlainIdent i.modules
   pub lattice : IsPlainLattice i.lattice
+  pub sample : IsPlainIdent i.sample
 
 module _ (ts : List Token) (plain : ArePlainTokens ts) (b : ℕ) where
   idents : Says (expressions.ident ts) IsPlainIdent
@@ -182,10 +184,23 @@ module _ (ts : List Token) (plain : ArePlainTokens ts) (b : ℕ) where
     lattice_says v i j (inl (a, e, (k, t, (l, ns, rest)))) = subst IsPlainLattice (sym e) (names_says (no_form {V = Ident}) a.1.0 k l ns)
     lattice_says v i j (inr (a, e, (k, t, (l, ns, (m, u, cs))))) = subst IsPlainLattice (sym e) (chain_says a.1.0 k l ns, categories_say a.1.1.1 m j cs)
 
+    modules_say : Says (meaning modules_line no_form ts b) (All IsPlainIdent)
+    unfolding modules_line
+    modules_say v i j (a, e, (k, t, (l, ns, end))) = subst (All IsPlainIdent) (sym e) (names_says (no_form {V = Ident}) a.1.0 k l ns)
+
+    sample_says : Says (meaning sample_line no_form ts b) IsPlainIdent
+    unfolding sample_line
+    sample_says v i j (a, e, (k, t, (l, n, end))) = subst IsPlainIdent (sym e) (idents a.1.0 k l n)
+
     interface_says : Says (meaning interface_grammar no_form ts b) IsPlainInterface
     unfolding interface_grammar
-    interface_says v i j (a, e, (k1, t, (k2, n, (k3, ms, (k4, l, rest))))) =
-        subst IsPlainInterface (sym e) (record { name = idents a.1.0 k1 k2 n; lattice = lattice_says a.1.1.1.0 k3 k4 l })
+    interface_says v i j (a, e, (k1, t, (k2, n, (k3, ms, (k4, l, (k5, levels, (k6, s, end))))))) =
+        subst IsPlainInterface (sym e) (record {
+          name = idents a.1.0 k1 k2 n;
+          modules = modules_say a.1.1.0 k2 k3 ms;
+          lattice = lattice_says a.1.1.1.0 k3 k4 l;
+          sample = sample_says a.1.1.1.1.1.0 k5 k6 s;
+        })
 
 -- the tree of an answer, where there is one
 abbrev tree_or : {T : Type 0} → T → Result (Reading T) TextFault → T

@@ -1,0 +1,4 @@
+pub mod Lawful
+pub mod Accepted
+pub mod Printing
+mod Few

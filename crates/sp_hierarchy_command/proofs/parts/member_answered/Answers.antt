@@ -1,0 +1,23 @@
+use Rattle.std.proofs.Common.{◌≤◌, List, Some, length, subst, sym}
+use Rattle.std.proofs.lemmas.Result.{err_from_is_err_and}
+use Rattle.sp_text.specs.declared.limits.TheConstants.{MOST_FORMULAS}
+use Rattle.sp_sequent.specs.declared.formula.Formula.{Formula as Made}
+use Rattle.sp_frame.specs.Uncertified.{spells}
+use Rattle.sp_frame.proofs.Connective.{prints_refused}
+use Rattle.sp_formula_list.specs.Listed.{FormulasListed}
+use Rattle.sp_hierarchy_command.proofs.Printing.{member_told}
+use Rattle.sp_hierarchy_command.proofs.parts.member_answered.Goals as goal
+
+pub owned_answered-requires-clause-few : goal.owned_answered-requires-clause-few
+owned_answered-requires-clause-few c = subst (λ (fs : List Made). length fs ≤ MOST_FORMULAS) (sym c.items.ensures) c.in_ok-formulas.ensures.few
+
+pub returns : goal.returns
+returns c =
+    let m = c.args.member.now in
+    member_told m.name m.elaborated.spec c.in_ok-formulas.formulas c.items.result.now c.in_ok-line.line.items c.owned_answered.result c.items.ensures c.in_ok-line.ensures c.in_ok-formulas.ensures.does c.owned_answered.ensures
+
+pub returns-in_err-formulas : goal.returns-in_err-formulas
+returns-in_err-formulas c =
+    let e = err_from_is_err_and c.from_residual.result c.from_residual.ensures.1 in
+    let m = c.args.member.now in
+    rw (e.1, e.2) (prints_refused spells (FormulasListed (Some m.name) m.elaborated.spec) _ _ c.in_err-formulas.ensures.does)

@@ -1,0 +1,10 @@
+pub mod Lines
+pub mod Inner
+pub mod Blocks
+pub mod Decisions
+pub mod Rows
+pub mod Known
+pub mod Reports
+pub mod Accepted
+pub mod Names
+pub mod Refusing

@@ -3,6 +3,7 @@ use Rattle.std.proofs.Common.{◌≡◌, ◌⊎◌, ◌∙◌, ℕ, List, Bool, 
 use Rattle.std.specs.Prelude.{IfOk, IfSome, MatchResult}
 use Rattle.sp_outside.specs.Files.{Files}
 use Rattle.sp_outside.specs.Written.{Appends, AppendsPrefix}
+use Rattle.sp_words.specs.Words.{Command, command_of}
 use Rattle.sp_frame.specs.declared.refusal.Refusal.{Refusal}
 use Rattle.sp_frame.specs.declared.refusal.Refusal.TheVariants as refusal
 use Rattle.sp_frame.specs.declared.refusal.Verdict.{Verdict}
@@ -19,7 +20,6 @@ use Rattle.sp_frame.specs.Status.{IsFailure, is_reported}
 use Rattle.sp_driver.specs.Certified.{Certified, spells}
 use Rattle.sp_driver.specs.Report.{CommandDone, Ends, EndsAs}
 use Rattle.sp_driver.specs.Run.{CauseOf, CutShort, EndsAnswered, HasReport, IsWritten, IsCaused, IsDetermined, Reported}
-use Rattle.sp_driver.specs.Words.{Command, command_of}
 use Rattle.sp_frame.specs.Steps.{DoesLoad}
 use Rattle.sp_frame.proofs.Connective.{reports_ending}
 use Rattle.sp_driver.specs.Laws.{CommandLaw}

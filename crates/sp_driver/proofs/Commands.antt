@@ -1,6 +1,7 @@
 -- Words have one ending at most.
 use Rattle.std.proofs.Common.{◌≡◌, ◌∙◌, ℕ, List, Option, Some, None, sym, ap}
 use Rattle.sp_outside.specs.Files.{Files}
+use Rattle.sp_words.specs.Words.{Command, check, command_of, compare, formulas, hierarchy, migrate, prove, run, sample, verify}
 use Rattle.sp_frame.specs.Endings.{Ending, ending_of}
 use Rattle.sp_frame.specs.Laws.{IsLawful}
 use Rattle.sp_frame.proofs.Uncertified.{widened_lawful}
@@ -11,10 +12,11 @@ use Rattle.sp_verify_command.specs.Migrate.{MigrateDone}
 use Rattle.sp_verify_command.specs.Verify.{VerifyDone}
 use Rattle.sp_run_command.specs.Run.{RunDone}
 use Rattle.sp_compare_command.specs.Compare.{CompareDone}
+use Rattle.sp_hierarchy_command.specs.Hierarchy.{HierarchyDone}
+use Rattle.sp_sample_command.specs.Sample.{SampleDone}
 use Rattle.sp_driver.specs.Certified.{Certified}
 use Rattle.sp_driver.specs.Laws.{CommandLaw}
 use Rattle.sp_driver.specs.Report.{CommandDone, Ends, EndsAs}
-use Rattle.sp_driver.specs.Words.{Command, check, command_of, compare, formulas, migrate, prove, run, verify}
 
 -- the law of all commands, from that of each
 module _ (files : Files) (of_check : (interface : List ℕ) → IsLawful files (CheckDone interface files))
@@ -23,7 +25,9 @@ module _ (files : Files) (of_check : (interface : List ℕ) → IsLawful files (
     (of_verify : (interface certs : List ℕ) → IsLawful files (VerifyDone interface certs files))
     (of_migrate : (interface certs : List ℕ) → IsLawful files (MigrateDone interface certs files))
     (of_run : (interface instance script : List ℕ) → IsLawful files (RunDone interface instance script files))
-    (of_compare : (interface instance script level : List ℕ) → IsLawful files (CompareDone interface instance script level files)) where
+    (of_compare : (interface instance script level : List ℕ) → IsLawful files (CompareDone interface instance script level files))
+    (of_hierarchy : (whole : List ℕ) → IsLawful files (HierarchyDone whole files))
+    (of_sample : (size : ℕ) → IsLawful files (SampleDone size)) where
   pub lawful : (command : Command) → IsLawful files (CommandDone command files)
   lawful (check interface) = widened_lawful files _ (of_check interface)
   lawful (formulas interface) = widened_lawful files _ (of_formulas interface)
@@ -32,6 +36,8 @@ module _ (files : Files) (of_check : (interface : List ℕ) → IsLawful files (
   lawful (migrate interface certs) = widened_lawful files _ (of_migrate interface certs)
   lawful (run interface instance script) = widened_lawful files _ (of_run interface instance script)
   lawful (compare interface instance script level) = widened_lawful files _ (of_compare interface instance script level)
+  lawful (hierarchy whole) = widened_lawful files _ (of_hierarchy whole)
+  lawful (sample size) = widened_lawful files _ (of_sample size)
 
 module _ (law : CommandLaw) (files : Files) where
   ends_once : (command : Option Command) (e f : Ending Certified) → EndsAs command files e → EndsAs command files f → e ≡ f

@@ -6,6 +6,7 @@ use Rattle.sp_outside.specs.Files.{Files, first_file}
 use Rattle.sp_core.specs.Parts.{Parts}
 use Rattle.sp_formulas.specs.Formulas.{Formula, formulas as flow_formulas}
 use Rattle.sp_cert.specs.Tree.{Tree}
+use Rattle.sp_words.specs.Words.{Command, check, command_of, compare, formulas, hierarchy, migrate, prove, run, sample, verify}
 use Rattle.sp_frame.specs.declared.refusal.Refusal.TheVariants as refusal
 use Rattle.sp_frame.specs.declared.refusal.Verdict.TheVariants as verdict
 use Rattle.sp_frame.specs.declared.status.Status.TheVariants as status
@@ -22,7 +23,6 @@ use Rattle.sp_driver.specs.Certified.{Certified, spells}
 use Rattle.sp_driver.specs.Laws.{PrintedAreAccepted, certifies}
 use Rattle.sp_driver.specs.Report.{CommandDone, Ends, EndsAs}
 use Rattle.sp_driver.specs.Run.{EndsAnswered}
-use Rattle.sp_driver.specs.Words.{Command, check, command_of, compare, formulas, migrate, prove, run, verify}
 use Rattle.sp_driver.proofs.Accepted.{done_of, lines_of, no_refusal_is_ok, ok_verdict}
 
 -- the same of the words of `verify`
@@ -70,6 +70,8 @@ module _ (specified : CertifiedAreSpecified) (beside : ProvedAreChecked) (accept
   of_command (verify given old) a e h shown v = absurd cc
   of_command (run given instance script) a e h shown v = absurd cc
   of_command (compare given instance script level) a e h shown v = absurd cc
+  of_command (hierarchy whole) a e h shown v = absurd cc
+  of_command (sample size) a e h shown v = absurd cc
 
   of_ending : (command : Option Command) (e : Ending Certified) → option_and_then certifies command ≡ Some interface → EndsAs command files e → Reports spells e bytes status.Ok → Accepts interface certs others
   of_ending None e is h r = absurd cc

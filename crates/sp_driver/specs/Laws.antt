@@ -2,6 +2,7 @@
 use Rattle.std.specs.Prelude.{◌≡◌, ◌≤◌, ℕ, List, Option, None, Some, length, option_and_then}
 use Rattle.sp_text.specs.declared.limits.TheConstants.{MOST_CERTIFICATE_BYTES}
 use Rattle.sp_outside.specs.Files.{Files, first_file}
+use Rattle.sp_words.specs.Words.{Command, command_of, migrate, prove, verify}
 use Rattle.sp_frame.specs.declared.refusal.Verdict.TheVariants as verdict
 use Rattle.sp_frame.specs.declared.status.Status.TheVariants as status
 use Rattle.sp_frame.specs.Endings.{Ending, Reports}
@@ -10,7 +11,6 @@ use Rattle.sp_verify_command.specs.Laws.{ReadAlike}
 use Rattle.sp_driver.specs.Certified.{Certified, spells}
 use Rattle.sp_driver.specs.Report.{CommandDone, Ends}
 use Rattle.sp_driver.specs.Run.{EndsAnswered}
-use Rattle.sp_driver.specs.Words.{Command, command_of, migrate, prove, verify}
 
 -- it comes to one outcome at most, and its refusals hold of the files
 abbrev pub CommandLaw : Type 0

@@ -1,7 +1,6 @@
 pub mod Certified
 pub mod Laws
-pub mod Meant
 pub mod Report
 pub mod Run
+pub mod Secure
 pub mod Shown
-pub mod Words

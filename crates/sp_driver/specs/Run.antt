@@ -1,5 +1,5 @@
 -- What the top call answers and writes, and why, for its contract.
-use Rattle.std.specs.Prelude.{◌≡◌, ◌⊎◌, ℕ, List, Option, None, Some, IsTrue, option_and_then}
+use Rattle.std.specs.Prelude.{◌≡◌, ◌⊎◌, ℕ, List, Option, None, IsTrue}
 use Rattle.sp_text.specs.declared.fault.Limit.{Limit}
 use Rattle.sp_text.specs.declared.fault.Malformed.{Malformed}
 use Rattle.sp_outside.specs.Files.{Files, IsTooLong, first_file}
@@ -13,29 +13,15 @@ use Rattle.sp_frame.specs.declared.status.Status.{Status}
 use Rattle.sp_frame.specs.declared.status.Status.TheVariants as status
 use Rattle.sp_frame.specs.Endings.{Answer, Ending, Prints, Reports, answered, refused, verdict_of}
 use Rattle.sp_frame.specs.Status.{IsFailure, is_reported}
-use Rattle.sp_check_command.specs.Secure.{IsSecureInterface}
-use Rattle.sp_headline.specs.Lines.{HoldsAccepted}
+use Rattle.sp_words.specs.Words.{command_of}
 use Rattle.sp_driver.specs.Certified.{Certified, spells}
 use Rattle.sp_driver.specs.Report.{Ends}
-use Rattle.sp_driver.specs.Shown.{BeginsInterface, IsAppended}
-use Rattle.sp_driver.specs.Words.{Command, check, command_of, prove, verify}
+use Rattle.sp_driver.specs.Secure.{AskedIsSecure, ShownIsSecure}
+use Rattle.sp_driver.specs.Shown.{IsAppended}
 
 -- the bytes of the report were written, and this is its status
 abbrev pub IsWritten : Option (List ℕ) → Option (List ℕ) → Report → Status → Type 0
 IsWritten before now report result = Appends before now report.bytes.items × (result ≡ report.status)
-
--- the interface of which a command asks whether it is secure
-abbrev pub asked : Command → Option (List ℕ)
-asked (check interface) = Some interface
-asked (prove interface) = Some interface
-asked (verify interface certificates) = Some interface
-asked c = None
-
--- the same of a command that prints its answer in lines
-abbrev pub asked_in_lines : Command → Option (List ℕ)
-asked_in_lines (check interface) = Some interface
-asked_in_lines (verify interface certificates) = Some interface
-asked_in_lines c = None
 
 module _ (words : List (List ℕ)) where
   -- the words have an ending of this status, and its bytes were written
@@ -54,16 +40,13 @@ module _ (words : List (List ℕ)) where
   abbrev pub IsDetermined : Status → Option (List ℕ) → Option (List ℕ) → Files → Type 0
   IsDetermined code before now files = (e : Ending Certified) → Ends words files e → ((bytes : List ℕ) × Reports spells e bytes code × Appends before now bytes) ⊎ IsFailure code
 
-  -- the interface of which the words ask is secure: the files read as it and stand for one specification, of which its sample is an admissible
-  -- instance, and that specification is secure
+  -- what the words ask about is secure
   abbrev pub AcceptsSecure : Files → Type 0
-  AcceptsSecure files = (interface : List ℕ) → option_and_then asked (command_of words) ≡ Some interface → IsSecureInterface interface files
+  AcceptsSecure files = AskedIsSecure (command_of words) files
 
-  -- it is secure where bytes were written that begin with INTERFACE, and hold a line that begins with ACCEPTED
+  -- the same by the lines that begin with ACCEPTED in the bytes that were written, all of a report or a part
   abbrev pub ShowsSecure : Option (List ℕ) → Option (List ℕ) → Files → Type 0
-  ShowsSecure before now files =
-      (interface bytes : List ℕ) → option_and_then asked_in_lines (command_of words) ≡ Some interface → IsAppended before now bytes → BeginsInterface bytes → HoldsAccepted bytes
-      → IsSecureInterface interface files
+  ShowsSecure before now files = (bytes : List ℕ) → IsAppended before now bytes → ShownIsSecure (command_of words) bytes files
 
   -- ---- causes
 

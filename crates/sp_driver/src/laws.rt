@@ -10,8 +10,10 @@ ghost use Rattle.sp_driver.specs.Report.{Ends};
 use sp_check_command::check_law;
 use sp_compare_command::compare_law;
 use sp_formulas_command::formulas_law;
+use sp_hierarchy_command::hierarchy_law;
 use sp_prove_command::{certified_law as proved_parts, checked_law, prove_law};
 use sp_run_command::run_law;
+use sp_sample_command::sample_law;
 use sp_verify_command::{certified_law, migrate_law, migrated_law, verify_law};
 
 /// The work of each command comes to one outcome at most, and its refusals hold of the files. It does nothing: its clause
@@ -26,6 +28,8 @@ pub fn command_law()
     migrate_law();
     run_law();
     compare_law();
+    hierarchy_law();
+    sample_law();
 }
 
 /// Words and files have at most one ending. It does nothing: its clause is the law.

@@ -4,7 +4,6 @@
 mod laws;
 mod perform;
 mod top_call;
-mod words;
 
 pub use laws::{command_law, one_ending, printed_law};
 pub use sp_frame::Status;

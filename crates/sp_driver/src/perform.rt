@@ -1,20 +1,27 @@
 //! The commands.
 
+ghost use Rattle.std.specs.Prelude.{◌≡◌, ℕ, Err, Some};
+ghost use Rattle.sp_words.specs.Meant.{command_meant};
+ghost use Rattle.sp_words.specs.Words.{IsSized, sample};
 ghost use Rattle.sp_frame.specs.Endings.{Printing};
 ghost use Rattle.sp_frame.specs.Loads.{Loads};
+ghost use Rattle.sp_frame.specs.Steps.{DoesLoad};
+ghost use Rattle.sp_frame.specs.Uncertified as lines;
+ghost use Rattle.sp_sample_command.specs.Sample.{SampleDone};
 ghost use Rattle.sp_driver.specs.Certified.{spells};
-ghost use Rattle.sp_driver.specs.Meant.{command_meant};
-ghost use Rattle.sp_driver.specs.Report.{CommandDone};
+ghost use Rattle.sp_driver.specs.Report.{CommandDone, IsLoading};
 
-use crate::words::Command;
 use sp_check_command::check_command;
 use sp_compare_command::compare_command;
 use sp_formulas_command::formulas_command;
-use sp_frame::{LoadStop, Printed};
+use sp_frame::{LoadStop, Printed, as_loading};
+use sp_hierarchy_command::hierarchy_command;
 use sp_outside::Library;
 use sp_prove_command::prove_command;
 use sp_run_command::run_command;
+use sp_sample_command::sample_command;
 use sp_verify_command::{migrate_command, verify_command};
+use sp_words::Command;
 use std::alloc::Global;
 
 /// The lines of a command.
@@ -27,7 +34,11 @@ pub fn perform<L: Library>(
     command: Command<'_>,
     lib: &mut L,
 ) -> Result<Printed, LoadStop>
-    ensures { Loads L.told L.faults lib.old lib.new (λ files. Printing spells (CommandDone (command_meant command.entry) files)) result }
+    requires { IsSized (command_meant command) }
+    ensures work { Loads L.told L.faults lib.old lib.new (λ files. Printing spells (CommandDone (command_meant command.entry) files)) result }
+    // `sample` does its work whatever the library.
+    ensures alone { (size : ℕ) → command_meant command.entry ≡ sample size → DoesLoad (Printing lines.spells (SampleDone size)) result }
+    ensures read_fault { result ≡ Err LoadStop.ReadFault → IsLoading (Some (command_meant command.entry)) }
 {
     match command {
         Command::Check { interface } => check_command(alloc, lib, interface),
@@ -52,5 +63,7 @@ pub fn perform<L: Library>(
             script,
             level,
         } => compare_command(alloc, lib, interface, instance, script, level),
+        Command::Hierarchy { hierarchy } => hierarchy_command(alloc, lib, hierarchy),
+        Command::Sample { size } => as_loading(sample_command(alloc, size)),
     }
 }

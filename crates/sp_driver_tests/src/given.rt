@@ -19,6 +19,20 @@ pub fn outcome_of(
     failing: Vec<u64>,
     room: usize,
 ) -> Result<(Status, MemorySink), Memory> {
+    outcome_over(alloc, words, &texts, failing, room)
+}
+
+/// The same over any number of files.
+///
+/// # Errors
+/// `Memory` where they can't be held.
+pub fn outcome_over(
+    alloc: Global,
+    words: &[&str],
+    texts: &[(&str, &[u8])],
+    failing: Vec<u64>,
+    room: usize,
+) -> Result<(Status, MemorySink), Memory> {
     let mut files = Vec::new(alloc);
     for (name, text) in texts {
         files.push((String::from_str(alloc, name)?, text.to_vec(alloc)?))?;

@@ -7,8 +7,12 @@ mod certificates;
 #[cfg(test)]
 mod given;
 #[cfg(test)]
+mod hierarchies;
+#[cfg(test)]
 mod refusals;
 #[cfg(test)]
 mod rows;
+#[cfg(test)]
+mod samples;
 #[cfg(test)]
 mod tests;

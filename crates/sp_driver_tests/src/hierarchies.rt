@@ -17,6 +17,15 @@ VFUN cell(seg s; INTEGER i) -> INTEGER; HIDDEN; INITIALLY 0;
 OFUN put(user u; seg s; INTEGER i; INTEGER x); EXCEPTIONS no_write: NOT clr(u) <= scls(s); EFFECTS 'cell(s, i) = x;
 END_MODULE";
 
+// The same without the exception, so that every user writes every cell.
+const UNGUARDED: &[u8] = b"MODULE store
+TYPES user: DESIGNATOR; seg: DESIGNATOR;
+PARAMETERS LEVEL clr(user u); LEVEL scls(seg s);
+FUNCTIONS
+VFUN cell(seg s; INTEGER i) -> INTEGER; HIDDEN; INITIALLY 0;
+OFUN put(user u; seg s; INTEGER i; INTEGER x); EFFECTS 'cell(s, i) = x;
+END_MODULE";
+
 const ONE: &[u8] = b"INSTANCE st
 POPULATION user = {u0}; POPULATION seg = {s0};
 PARAMETER clr: OTHERWISE LOW; PARAMETER scls: OTHERWISE LOW;
@@ -63,15 +72,34 @@ REFUSED 1 of 1 formulas
 HIERARCHY REFUSED
 ";
 
-// The files of the worked hierarchy, with this mapping in the file of this name.
-fn texts<'a>(name: &'a str, mapping: &'a [u8]) -> [(&'a str, &'a [u8]); 8] {
+// The mapping is accepted over an interface that is refused: nothing is claimed of it then.
+const LOWER_REFUSED: &[u8] = b"INTERFACE files
+1 read result-reference PROVED
+2 write change PROVED
+ACCEPTED 2 formulas
+INTERFACE store
+1 put change OPEN
+  u = ? FALSE
+  s = ? FALSE
+  i = ? FALSE
+  x = ? FALSE
+  clr(u) <= scls(s) FALSE
+REFUSED 1 of 1 formulas
+MAPPING down
+1 data mapping-reference PROVED
+ACCEPTED 1 formulas
+HIERARCHY REFUSED
+";
+
+// The files of the worked hierarchy, with this lower module, and this mapping in the file of this name.
+fn texts<'a>(cells: &'a [u8], name: &'a str, mapping: &'a [u8]) -> [(&'a str, &'a [u8]); 8] {
     [
         ("sys.hier", SYS),
         ("files.iface", FILES),
         ("files.special", GUARDED),
         ("small.inst", SMALL),
         ("store.iface", STORE),
-        ("store.special", CELLS),
+        ("store.special", cells),
         ("st.inst", ONE),
         (name, mapping),
     ]
@@ -80,14 +108,15 @@ fn texts<'a>(name: &'a str, mapping: &'a [u8]) -> [(&'a str, &'a [u8]); 8] {
 #[test]
 fn hierarchies_are_decided(rt: HostRuntime) -> Result<(), Fail> {
     let alloc = rt.alloc();
-    let rows: [(&str, &[u8], u8, &[u8]); 3] = [
-        ("down.map", DOWN, 0, ACCEPTED),
-        ("down.map", LOWERED, 1, REFUSED),
-        ("up.map", DOWN, 4, b"MISSING down.map\n"),
+    let rows: [(&[u8], &str, &[u8], u8, &[u8]); 4] = [
+        (CELLS, "down.map", DOWN, 0, ACCEPTED),
+        (CELLS, "down.map", LOWERED, 1, REFUSED),
+        (UNGUARDED, "down.map", DOWN, 1, LOWER_REFUSED),
+        (CELLS, "up.map", DOWN, 4, b"MISSING down.map\n"),
     ];
-    for (name, mapping, code, printed) in rows {
+    for (cells, name, mapping, code, printed) in rows {
         let words = ["hierarchy", "sys.hier"];
-        let files = texts(name, mapping);
+        let files = texts(cells, name, mapping);
         let (status, out) = outcome_over(alloc, &words, &files, Vec::new(alloc), 500)?;
         assert_eq!(rt; status.code(), code);
         assert_eq!(rt; out.bytes(), printed);

@@ -197,6 +197,3 @@ impl BitTable {
         lower(&mut self.words, k);
     }
 }
-
-#[cfg(test)]
-mod tests;

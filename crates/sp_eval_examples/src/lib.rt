@@ -2,4 +2,6 @@
 #![tactic(auto)]
 
 #[cfg(test)]
+mod specifications;
+#[cfg(test)]
 mod tests;

@@ -3,8 +3,6 @@
 #![tactic(auto)]
 
 mod builders;
-#[cfg(test)]
-mod tests;
 mod theorems;
 
 pub use builders::{

@@ -9,6 +9,3 @@ mod table;
 pub use decl::{LatticeDecl, LatticeFault};
 pub use lattice::Lattice;
 pub use laws::{one_order, product_is_lattice, product_numbers};
-
-#[cfg(test)]
-mod tests;

@@ -8,7 +8,5 @@ mod spelling;
 mod tokens;
 
 pub use laws::reading_is_unique;
+pub use spelling::KEYWORDS;
 pub use tokens::lex;
-
-#[cfg(test)]
-mod tests;

@@ -14,6 +14,3 @@ pub use node::{Full, Head, Mark, Node, TermId};
 pub use plain::PlainPool;
 pub use pool::Pool;
 pub use region::{Region, RegionFull};
-
-#[cfg(test)]
-mod tests;

@@ -31,6 +31,3 @@ pub use violation::{
     FileViolation, Requirement, Violation, breaks, earlier, earlier_in_files, exceeds, in_file,
     otherwise, otherwise_in_files,
 };
-
-#[cfg(test)]
-mod tests;

@@ -10,6 +10,3 @@ pub use args::Args;
 pub use arithmetic::{add, int_le, int_lt, mul, sub};
 pub use place::{Invocation, Place};
 pub use value::{Op, Ty, Value};
-
-#[cfg(test)]
-mod tests;

@@ -1,4 +1,4 @@
-use super::{Full, Head, Mark, Node, PlainPool, Pool, Region, RegionFull, TermId};
+use sp_pool::{Full, Head, Mark, Node, PlainPool, Pool, Region, RegionFull, TermId};
 use sp_values::{Op, Value};
 use std::test::Fail;
 

@@ -1,4 +1,4 @@
-use super::BitTable;
+use sp_bits::BitTable;
 use std::test::Fail;
 
 #[test]

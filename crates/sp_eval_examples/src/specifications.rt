@@ -2,10 +2,10 @@ ghost use Rattle.std.specs.Prelude.{◌≡◌, [], ◌∷◌, IfOk, codes, map};
 ghost use Rattle.sp_examples.specs.Common.{AreOverLowHigh};
 ghost use Rattle.sp_examples.specs.WorkedFiles.{data_function, file, file_functions, file_params, file_types, files, high_at, level_at, no_write, not_below, number, read_function, small, user, write_function};
 
-use crate::{designator, formal, level_param, low_high, one_formal, two_names};
 use sp_core::{
     Effect, Expr, Formal, Function, Instance, Kind, Param, Spec, State, Table, TypeInfo,
 };
+use sp_examples::{designator, formal, level_param, low_high, one_formal, two_names};
 use sp_text::{Memory, Name, Sequence};
 use sp_values::{Args, Op, Place, Ty, Value};
 use sqlite_items::{Boxed, Items};

@@ -1,7 +1,7 @@
 use Rattle.std.proofs.Common.{◌≡◌, refl}
 use Rattle.sp_examples.specs.WorkedFiles.{small}
 use Rattle.sp_examples.proofs.WorkedLemmas.{small_assembles}
-use Rattle.sp_examples.proofs.tests.small.Goals as goal
+use Rattle.sp_eval_examples.proofs.specifications.small.Goals as goal
 
 pub assemble-requires : goal.assemble-requires
 assemble-requires c =

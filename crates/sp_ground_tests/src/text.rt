@@ -1,4 +1,4 @@
-use super::{
+use sp_text::{
     Name, Quantity, Rule, Sequence, Span, breaks, earlier, earlier_in_files, exceeds, in_file,
     push_number, push_text,
 };

@@ -1,4 +1,4 @@
-use super::{Args, Value, add, int_le, int_lt, mul, sub};
+use sp_values::{Args, Value, add, int_le, int_lt, mul, sub};
 
 const GREATEST: Value = Value::Int(i64::MAX);
 

@@ -1,5 +1,5 @@
 use Rattle.sp_examples.proofs.WorkedLemmas.{files_assemble}
-use Rattle.sp_examples.proofs.tests.files.Goals as goal
+use Rattle.sp_eval_examples.proofs.specifications.files.Goals as goal
 
 pub assemble-requires : goal.assemble-requires
 assemble-requires c =

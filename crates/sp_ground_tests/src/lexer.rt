@@ -1,7 +1,6 @@
 ghost use Rattle.std.specs.Prelude.{◌≡◌, IfOk, length};
 
-use super::lex;
-use crate::spelling::KEYWORDS;
+use sp_lexer::{KEYWORDS, lex};
 use sp_text::{
     Keyword, Limit, Malformed, Name, Quantity, Rule, Span, Symbol, TextFault, Token, TokenKind,
 };

@@ -1,6 +1,6 @@
 ghost use Rattle.sp_lattice.specs.Closure.{AreLevels};
 
-use super::{Lattice, LatticeDecl, LatticeFault};
+use sp_lattice::{Lattice, LatticeDecl, LatticeFault};
 use sp_text::Sequence;
 use std::alloc::Global;
 use std::test::Fail;

@@ -1,6 +1,6 @@
 //! Limits after expansion.
 
-use crate::texts::{exceeds, type_below, type_of};
+use crate::texts::{exceeds, shows, type_below, type_of};
 use sp_text::{Memory, Quantity, TextFault, push_number};
 use sp_values::Ty;
 use std::alloc::Global;
@@ -28,20 +28,22 @@ fn doubled(alloc: Global, count: u16, text: &[u8]) -> Result<Ty, TextFault> {
 #[test]
 fn nodes_up_to_1024(rt: HostRuntime) {
     let alloc = rt.alloc();
-    assert_eq!(rt; doubled(alloc, 9, b"e8()"), Ok(Ty::Boolean));
-    assert_eq!(rt; doubled(alloc, 9, b"NOT e8()"), Ok(Ty::Boolean));
-    assert_eq!(rt;
+    shows(&rt, doubled(alloc, 9, b"e8()"), Ok(Ty::Boolean));
+    shows(&rt, doubled(alloc, 9, b"NOT e8()"), Ok(Ty::Boolean));
+    shows(
+        &rt,
         doubled(alloc, 9, b"NOT NOT e8()"),
-        exceeds(0, 12, Quantity::ExpressionNodes)
+        exceeds(0, 12, Quantity::ExpressionNodes),
     );
 }
 
 #[test]
 fn expansion_is_refused_at_once(rt: HostRuntime) {
     let alloc = rt.alloc();
-    assert_eq!(rt;
+    shows(
+        &rt,
         doubled(alloc, 510, b"e8() AND e8()"),
-        exceeds(0, 13, Quantity::ExpressionNodes)
+        exceeds(0, 13, Quantity::ExpressionNodes),
     );
 }
 
@@ -66,44 +68,49 @@ fn below_denial(alloc: Global, count: u16, text: &[u8]) -> Result<Ty, TextFault>
 #[test]
 fn height_up_to_64_after_expansion(rt: HostRuntime) {
     let alloc = rt.alloc();
-    assert_eq!(rt;
+    shows(
+        &rt,
         below_denial(alloc, 60, b"f(NOT NOT NOT TRUE)"),
-        Ok(Ty::Boolean)
+        Ok(Ty::Boolean),
     );
-    assert_eq!(rt;
+    shows(
+        &rt,
         below_denial(alloc, 61, b"f(NOT NOT NOT TRUE)"),
-        exceeds(0, 19, Quantity::Height)
+        exceeds(0, 19, Quantity::Height),
     );
 }
 
 #[test]
 fn a_translation_that_is_higher_than_its_text(rt: HostRuntime) {
     let alloc = rt.alloc();
-    assert_eq!(rt;
+    shows(
+        &rt,
         below_denial(alloc, 62, b"f(p ~= q)"),
-        exceeds(0, 9, Quantity::Height)
+        exceeds(0, 9, Quantity::Height),
     );
-    assert_eq!(rt; below_denial(alloc, 62, b"f(p = q)"), Ok(Ty::Boolean));
+    shows(&rt, below_denial(alloc, 62, b"f(p = q)"), Ok(Ty::Boolean));
 }
 
 #[test]
 fn quantifiers_up_to_three(rt: HostRuntime) {
     let alloc = rt.alloc();
-    assert_eq!(rt;
+    shows(
+        &rt,
         type_of(
             alloc,
             None,
-            b"FORALL c x: EXISTS c w: every() END_EXISTS END_FORALL"
+            b"FORALL c x: EXISTS c w: every() END_EXISTS END_FORALL",
         ),
-        Ok(Ty::Boolean)
+        Ok(Ty::Boolean),
     );
-    assert_eq!(rt;
+    shows(
+        &rt,
         type_of(
             alloc,
             None,
-            b"FORALL c x: EXISTS c w: FORALL c u: every() END_FORALL END_EXISTS END_FORALL"
+            b"FORALL c x: EXISTS c w: FORALL c u: every() END_FORALL END_EXISTS END_FORALL",
         ),
-        exceeds(0, 76, Quantity::Quantifiers)
+        exceeds(0, 76, Quantity::Quantifiers),
     );
 }
 
@@ -111,6 +118,10 @@ fn quantifiers_up_to_three(rt: HostRuntime) {
 fn the_height_counts_before_the_nodes(rt: HostRuntime) -> Result<(), Memory> {
     let alloc = rt.alloc();
     let text = denied(alloc, 60, b"e8()")?;
-    assert_eq!(rt; doubled(alloc, 9, &text), exceeds(0, 244, Quantity::Height));
+    shows(
+        &rt,
+        doubled(alloc, 9, &text),
+        exceeds(0, 244, Quantity::Height),
+    );
     Ok(())
 }

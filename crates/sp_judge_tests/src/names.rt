@@ -1,153 +1,196 @@
 //! Names, counts of arguments, quotes.
 
-use crate::texts::{breaks, type_of, type_with};
+use crate::texts::{breaks, shows, type_of, type_with};
 use sp_text::Rule;
 use sp_values::Ty;
 
 #[test]
 fn names_that_are_not_visible(rt: HostRuntime) {
     let alloc = rt.alloc();
-    assert_eq!(rt;
+    shows(
+        &rt,
         type_of(alloc, None, b"zz"),
-        breaks(0, 2, Rule::UnknownName)
+        breaks(0, 2, Rule::UnknownName),
     );
-    assert_eq!(rt;
+    shows(
+        &rt,
         type_of(alloc, None, b"1 + zz()"),
-        breaks(4, 6, Rule::UnknownName)
+        breaks(4, 6, Rule::UnknownName),
     );
-    assert_eq!(rt;
+    shows(
+        &rt,
         type_of(alloc, None, b"'zz()"),
-        breaks(1, 3, Rule::UnknownName)
+        breaks(1, 3, Rule::UnknownName),
     );
 }
 
 #[test]
 fn names_of_another_kind(rt: HostRuntime) {
     let alloc = rt.alloc();
-    assert_eq!(rt; type_of(alloc, None, b"g"), breaks(0, 1, Rule::WrongKind));
-    assert_eq!(rt; type_of(alloc, None, b"c"), breaks(0, 1, Rule::WrongKind));
-    assert_eq!(rt; type_of(alloc, None, b"p()"), breaks(0, 1, Rule::WrongKind));
-    assert_eq!(rt; type_of(alloc, None, b"o()"), breaks(0, 1, Rule::WrongKind));
-    assert_eq!(rt; type_of(alloc, None, b"v()"), breaks(0, 1, Rule::WrongKind));
+    shows(
+        &rt,
+        type_of(alloc, None, b"g"),
+        breaks(0, 1, Rule::WrongKind),
+    );
+    shows(
+        &rt,
+        type_of(alloc, None, b"c"),
+        breaks(0, 1, Rule::WrongKind),
+    );
+    shows(
+        &rt,
+        type_of(alloc, None, b"p()"),
+        breaks(0, 1, Rule::WrongKind),
+    );
+    shows(
+        &rt,
+        type_of(alloc, None, b"o()"),
+        breaks(0, 1, Rule::WrongKind),
+    );
+    shows(
+        &rt,
+        type_of(alloc, None, b"v()"),
+        breaks(0, 1, Rule::WrongKind),
+    );
 }
 
 #[test]
 fn a_quote_asks_a_v_function(rt: HostRuntime) {
     let alloc = rt.alloc();
-    assert_eq!(rt;
+    shows(
+        &rt,
         type_of(alloc, None, b"'z()"),
-        breaks(1, 2, Rule::WrongKind)
+        breaks(1, 2, Rule::WrongKind),
     );
-    assert_eq!(rt;
+    shows(
+        &rt,
         type_of(alloc, None, b"'id(1)"),
-        breaks(1, 3, Rule::WrongKind)
+        breaks(1, 3, Rule::WrongKind),
     );
-    assert_eq!(rt;
+    shows(
+        &rt,
         type_of(alloc, None, b"'o()"),
-        breaks(1, 2, Rule::WrongKind)
+        breaks(1, 2, Rule::WrongKind),
     );
 }
 
 #[test]
 fn a_quote_stands_in_effects_alone(rt: HostRuntime) {
     let alloc = rt.alloc();
-    assert_eq!(rt;
+    shows(
+        &rt,
         type_of(alloc, None, b"'g()"),
-        breaks(0, 4, Rule::NewValueMisplaced)
+        breaks(0, 4, Rule::NewValueMisplaced),
     );
-    assert_eq!(rt;
+    shows(
+        &rt,
         type_of(alloc, None, b"'g(zz)"),
-        breaks(3, 5, Rule::UnknownName)
+        breaks(3, 5, Rule::UnknownName),
     );
-    assert_eq!(rt;
+    shows(
+        &rt,
         type_of(alloc, None, b"'g(1)"),
-        breaks(1, 2, Rule::WrongCount)
+        breaks(1, 2, Rule::WrongCount),
     );
-    assert_eq!(rt;
+    shows(
+        &rt,
         type_of(alloc, Some(Ty::Boolean), b"'g()"),
-        breaks(0, 4, Rule::WrongType)
+        breaks(0, 4, Rule::WrongType),
     );
 }
 
 #[test]
 fn the_arguments_of_a_call_are_judged_before_their_count(rt: HostRuntime) {
     let alloc = rt.alloc();
-    assert_eq!(rt;
+    shows(
+        &rt,
         type_of(alloc, None, b"b(zz, 1)"),
-        breaks(2, 4, Rule::UnknownName)
+        breaks(2, 4, Rule::UnknownName),
     );
-    assert_eq!(rt;
+    shows(
+        &rt,
         type_of(alloc, None, b"b(TRUE, 1)"),
-        breaks(0, 1, Rule::WrongCount)
+        breaks(0, 1, Rule::WrongCount),
     );
-    assert_eq!(rt;
+    shows(
+        &rt,
         type_of(alloc, None, b"zz(?)"),
-        breaks(0, 2, Rule::UnknownName)
+        breaks(0, 2, Rule::UnknownName),
     );
-    assert_eq!(rt;
+    shows(
+        &rt,
         type_of(alloc, None, b"z(?)"),
-        breaks(0, 1, Rule::WrongCount)
+        breaks(0, 1, Rule::WrongCount),
     );
 }
 
 #[test]
 fn a_call_of_a_wrong_count_has_no_type_to_judge(rt: HostRuntime) {
     let alloc = rt.alloc();
-    assert_eq!(rt;
+    shows(
+        &rt,
         type_of(alloc, Some(Ty::Boolean), b"z(1)"),
-        breaks(0, 1, Rule::WrongCount)
+        breaks(0, 1, Rule::WrongCount),
     );
-    assert_eq!(rt;
+    shows(
+        &rt,
         type_of(alloc, Some(Ty::Boolean), b"z()"),
-        breaks(0, 3, Rule::WrongType)
+        breaks(0, 3, Rule::WrongType),
     );
 }
 
 #[test]
 fn a_variable_hides_what_is_shared(rt: HostRuntime) {
     let alloc = rt.alloc();
-    assert_eq!(rt; type_with(alloc, b"g", b"g"), Ok(Ty::Integer));
-    assert_eq!(rt;
+    shows(&rt, type_with(alloc, b"g", b"g"), Ok(Ty::Integer));
+    shows(
+        &rt,
         type_with(alloc, b"g", b"g()"),
-        breaks(0, 1, Rule::WrongKind)
+        breaks(0, 1, Rule::WrongKind),
     );
-    assert_eq!(rt; type_with(alloc, b"x", b"g()"), Ok(Ty::Integer));
+    shows(&rt, type_with(alloc, b"x", b"g()"), Ok(Ty::Integer));
 }
 
 #[test]
 fn a_variable_repeats_no_name_around_it(rt: HostRuntime) {
     let alloc = rt.alloc();
-    assert_eq!(rt;
+    shows(
+        &rt,
         type_of(
             alloc,
             None,
-            b"FORALL c x: EXISTS c x: TRUE END_EXISTS END_FORALL"
+            b"FORALL c x: EXISTS c x: TRUE END_EXISTS END_FORALL",
         ),
-        breaks(21, 22, Rule::TwiceDeclared)
+        breaks(21, 22, Rule::TwiceDeclared),
     );
-    assert_eq!(rt;
+    shows(
+        &rt,
         type_with(alloc, b"y", b"FORALL c y: TRUE END_FORALL"),
-        breaks(9, 10, Rule::TwiceDeclared)
+        breaks(9, 10, Rule::TwiceDeclared),
     );
-    assert_eq!(rt;
+    shows(
+        &rt,
         type_of(alloc, None, b"FORALL c g: b(g) END_FORALL"),
-        Ok(Ty::Boolean)
+        Ok(Ty::Boolean),
     );
 }
 
 #[test]
 fn a_body_is_judged_behind_its_variable(rt: HostRuntime) {
     let alloc = rt.alloc();
-    assert_eq!(rt;
+    shows(
+        &rt,
         type_of(alloc, None, b"FORALL INTEGER x: zz END_FORALL"),
-        breaks(7, 14, Rule::NotFinite)
+        breaks(7, 14, Rule::NotFinite),
     );
-    assert_eq!(rt;
+    shows(
+        &rt,
         type_of(alloc, None, b"FORALL zz x: yy END_FORALL"),
-        breaks(7, 9, Rule::UnknownName)
+        breaks(7, 9, Rule::UnknownName),
     );
-    assert_eq!(rt;
+    shows(
+        &rt,
         type_of(alloc, None, b"FORALL g x: yy END_FORALL"),
-        breaks(7, 8, Rule::WrongKind)
+        breaks(7, 8, Rule::WrongKind),
     );
 }

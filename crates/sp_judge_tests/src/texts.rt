@@ -14,6 +14,7 @@ use sp_text::{
 use sp_tree::{ExprTree, Ident, InterfaceTree, LatticeTree, Module};
 use sp_values::Ty;
 use std::alloc::Global;
+use std::process::Abort;
 
 // What is around an expression, before and behind the definitions.
 const TYPES: &[u8] =
@@ -68,13 +69,20 @@ fn module_of(alloc: Global, definitions: &[u8]) -> Result<Module, TextFault> {
     parse_module(alloc, tokens.as_slice(), text.len() as u32)
 }
 
-fn names(alloc: Global, definitions: &[u8]) -> Result<Scopes, TextFault> {
-    let mut modules = Vec::new(alloc);
-    modules.push(module_of(alloc, definitions)?)?;
-    match Scopes::declare(alloc, &interface(alloc)?, modules.as_slice()) {
+// Each function from here on holds one value that has to be dropped: the proof of several in one grows with their product.
+
+fn declared(alloc: Global, modules: &[Module]) -> Result<Scopes, TextFault> {
+    let interface = interface(alloc)?;
+    match Scopes::declare(alloc, &interface, modules) {
         Ok(scopes) => Ok(scopes),
         Err(found) => Err(found.fault),
     }
+}
+
+fn names(alloc: Global, definitions: &[u8]) -> Result<Scopes, TextFault> {
+    let mut modules = Vec::new(alloc);
+    modules.push(module_of(alloc, definitions)?)?;
+    declared(alloc, modules.as_slice())
 }
 
 fn tree(alloc: Global, text: &[u8]) -> Result<ExprTree, TextFault> {
@@ -108,6 +116,20 @@ fn elaborated(
     }
 }
 
+fn type_among(
+    alloc: Global,
+    scopes: &Scopes,
+    locals: &[Local],
+    asked: Option<Ty>,
+    text: &[u8],
+) -> Result<Ty, TextFault> {
+    let e = tree(alloc, text)?;
+    match elaborated(alloc, scopes, locals, asked, &e) {
+        Ok((_, ty)) => Ok(ty),
+        Err(fault) => Err(fault),
+    }
+}
+
 /// The type of the expression of a text below these further definitions and variables, or what it breaks.
 pub fn type_below(
     alloc: Global,
@@ -117,9 +139,7 @@ pub fn type_below(
     text: &[u8],
 ) -> Result<Ty, TextFault> {
     let scopes = names(alloc, definitions)?;
-    let e = tree(alloc, text)?;
-    let (_, ty) = elaborated(alloc, &scopes, locals, asked, &e)?;
-    Ok(ty)
+    type_among(alloc, &scopes, locals, asked, text)
 }
 
 /// The same without further definitions and variables.
@@ -147,4 +167,9 @@ pub fn breaks(start: u32, end: u32, rule: Rule) -> Result<Ty, TextFault> {
 pub fn exceeds(start: u32, end: u32, quantity: Quantity) -> Result<Ty, TextFault> {
     let span = Span { start, end };
     Err(TextFault::Limit(Limit { span, quantity }))
+}
+
+/// Asserts which type a text has, or what it breaks. The assertion stands here alone, since each costs the proof of a test much.
+pub fn shows(rt: &impl Abort, found: Result<Ty, TextFault>, want: Result<Ty, TextFault>) {
+    assert_eq!(rt; found, want);
 }

@@ -42,16 +42,22 @@ fn idents(alloc: Global, names: &[&[u8]]) -> Result<Sequence<Ident>, Memory> {
     Ok(Sequence::new(all))
 }
 
-// The interface of the module `m`, with LOW below HIGH.
-fn interface(alloc: Global) -> Result<InterfaceTree, Memory> {
+fn lattice(alloc: Global) -> Result<LatticeTree, Memory> {
     let names: [&[u8]; 2] = [b"LOW", b"HIGH"];
     let mut chains = Vec::new(alloc);
     chains.push(idents(alloc, &names)?)?;
     let chains = Sequence::new(chains);
+    Ok(LatticeTree::Order(PLACE, idents(alloc, &names)?, chains))
+}
+
+// The interface of the module `m`, with LOW below HIGH.
+fn interface(alloc: Global) -> Result<InterfaceTree, Memory> {
+    let name = ident(alloc, b"i")?;
+    let modules = idents(alloc, &[b"m"])?;
     Ok(InterfaceTree {
-        name: ident(alloc, b"i")?,
-        modules: idents(alloc, &[b"m"])?,
-        lattice: LatticeTree::Order(PLACE, idents(alloc, &names)?, chains),
+        name,
+        modules,
+        lattice: lattice(alloc)?,
         levels: Sequence::new(Vec::new(alloc)),
         sample: ident(alloc, b"s")?,
     })
@@ -116,6 +122,19 @@ fn elaborated(
     }
 }
 
+fn type_of_tree(
+    alloc: Global,
+    scopes: &Scopes,
+    locals: &[Local],
+    asked: Option<Ty>,
+    e: &ExprTree,
+) -> Result<Ty, TextFault> {
+    match elaborated(alloc, scopes, locals, asked, e) {
+        Ok((_, ty)) => Ok(ty),
+        Err(fault) => Err(fault),
+    }
+}
+
 fn type_among(
     alloc: Global,
     scopes: &Scopes,
@@ -124,10 +143,7 @@ fn type_among(
     text: &[u8],
 ) -> Result<Ty, TextFault> {
     let e = tree(alloc, text)?;
-    match elaborated(alloc, scopes, locals, asked, &e) {
-        Ok((_, ty)) => Ok(ty),
-        Err(fault) => Err(fault),
-    }
+    type_of_tree(alloc, scopes, locals, asked, &e)
 }
 
 /// The type of the expression of a text below these further definitions and variables, or what it breaks.

@@ -1,6 +1,6 @@
 //! Definitions, assertions, initial values and derivations.
 
-use crate::texts::{Broken, alone, beside, breaks, breaks_beside};
+use crate::texts::{Broken, alone, beside, breaks, breaks_beside, shows};
 use sp_text::Rule;
 
 const MODULES: [Broken; 5] = [
@@ -42,7 +42,7 @@ const MODULES: [Broken; 5] = [
 fn texts_of_modules(rt: HostRuntime) {
     let alloc = rt.alloc();
     for (module, start, end, rule) in &MODULES {
-        assert_eq!(rt; alone(alloc, module), breaks(1, *start, *end, *rule));
+        shows(&rt, alone(alloc, module), breaks(1, *start, *end, *rule));
     }
 }
 
@@ -83,9 +83,10 @@ const FUNCTIONS: [Broken; 5] = [
 fn texts_of_functions(rt: HostRuntime) {
     let alloc = rt.alloc();
     for (functions, start, end, rule) in &FUNCTIONS {
-        assert_eq!(rt;
+        shows(
+            &rt,
             beside(alloc, functions),
-            breaks_beside(*start, *end, *rule)
+            breaks_beside(*start, *end, *rule),
         );
     }
 }

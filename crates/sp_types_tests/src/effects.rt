@@ -1,6 +1,6 @@
 //! Effects.
 
-use crate::texts::{Broken, alone, beside, breaks, breaks_beside};
+use crate::texts::{Broken, alone, beside, breaks, breaks_beside, shows};
 use sp_text::Rule;
 
 const MODULES: [Broken; 3] = [
@@ -30,7 +30,7 @@ const MODULES: [Broken; 3] = [
 fn effects_of_worked_modules(rt: HostRuntime) {
     let alloc = rt.alloc();
     for (module, start, end, rule) in &MODULES {
-        assert_eq!(rt; alone(alloc, module), breaks(1, *start, *end, *rule));
+        shows(&rt, alone(alloc, module), breaks(1, *start, *end, *rule));
     }
 }
 
@@ -66,9 +66,10 @@ const CHANGES: [Broken; 5] = [
 fn changes(rt: HostRuntime) {
     let alloc = rt.alloc();
     for (functions, start, end, rule) in &CHANGES {
-        assert_eq!(rt;
+        shows(
+            &rt,
             beside(alloc, functions),
-            breaks_beside(*start, *end, *rule)
+            breaks_beside(*start, *end, *rule),
         );
     }
 }
@@ -98,9 +99,10 @@ const RESULTS: [Broken; 3] = [
 fn results(rt: HostRuntime) {
     let alloc = rt.alloc();
     for (functions, start, end, rule) in &RESULTS {
-        assert_eq!(rt;
+        shows(
+            &rt,
             beside(alloc, functions),
-            breaks_beside(*start, *end, *rule)
+            breaks_beside(*start, *end, *rule),
         );
     }
 }

@@ -1,6 +1,6 @@
 //! Which of several faults is told.
 
-use crate::texts::{Broken, beside, breaks, breaks_beside, elaborated, exceeds_beside};
+use crate::texts::{Broken, beside, breaks, breaks_beside, elaborated, exceeds_beside, shows};
 use sp_text::{Quantity, Rule};
 
 // An interface of the modules `m` and `n`, of which a level equation is broken.
@@ -40,9 +40,10 @@ const PAIRS: [(&[u8], &[u8], u16, u32, u32, Rule); 3] = [
 fn passes_and_files(rt: HostRuntime) {
     let alloc = rt.alloc();
     for (first, second, file, start, end, rule) in &PAIRS {
-        assert_eq!(rt;
+        shows(
+            &rt,
             elaborated(alloc, TWO, &[*first, *second]),
-            breaks(*file, *start, *end, *rule)
+            breaks(*file, *start, *end, *rule),
         );
     }
 }
@@ -82,9 +83,10 @@ const FUNCTIONS: [Broken; 4] = [
 fn rules(rt: HostRuntime) {
     let alloc = rt.alloc();
     for (functions, start, end, rule) in &FUNCTIONS {
-        assert_eq!(rt;
+        shows(
+            &rt,
             beside(alloc, functions),
-            breaks_beside(*start, *end, *rule)
+            breaks_beside(*start, *end, *rule),
         );
     }
 }
@@ -110,9 +112,10 @@ const LIMITS: [(&[u8], u32, u32); 2] = [
 fn limits(rt: HostRuntime) {
     let alloc = rt.alloc();
     for (functions, start, end) in &LIMITS {
-        assert_eq!(rt;
+        shows(
+            &rt,
             beside(alloc, functions),
-            exceeds_beside(*start, *end, Quantity::Quantifiers)
+            exceeds_beside(*start, *end, Quantity::Quantifiers),
         );
     }
 }

@@ -1,6 +1,6 @@
 //! What interfaces break: orders that are no lattices, with the two levels that show it, and levels of functions.
 
-use crate::texts::{Broken, NOTHING, OPERATION, alone, below, breaks};
+use crate::texts::{Broken, NOTHING, OPERATION, alone, below, breaks, shows};
 use crate::worked::FILES;
 use sp_text::Rule;
 
@@ -32,9 +32,10 @@ const ORDERS: [Broken; 3] = [
 fn orders(rt: HostRuntime) {
     let alloc = rt.alloc();
     for (interface, start, end, rule) in &ORDERS {
-        assert_eq!(rt;
+        shows(
+            &rt,
             below(alloc, interface, NOTHING),
-            breaks(0, *start, *end, *rule)
+            breaks(0, *start, *end, *rule),
         );
     }
 }
@@ -52,9 +53,10 @@ END_INTERFACE";
 #[test]
 fn a_worked_order(rt: HostRuntime) {
     let alloc = rt.alloc();
-    assert_eq!(rt;
+    shows(
+        &rt,
         below(alloc, TWO, FILES),
-        breaks(0, 29, 36, Rule::NoLub(0, 1))
+        breaks(0, 29, 36, Rule::NoLub(0, 1)),
     );
 }
 
@@ -91,9 +93,10 @@ const EQUATIONS: [Broken; 4] = [
 fn names_of_equations(rt: HostRuntime) {
     let alloc = rt.alloc();
     for (interface, start, end, rule) in &EQUATIONS {
-        assert_eq!(rt;
+        shows(
+            &rt,
             below(alloc, interface, OPERATION),
-            breaks(0, *start, *end, *rule)
+            breaks(0, *start, *end, *rule),
         );
     }
 }
@@ -124,9 +127,10 @@ const QUANTIFIED: [Broken; 2] = [
 fn levels_with_a_quantifier(rt: HostRuntime) {
     let alloc = rt.alloc();
     for (interface, start, end, rule) in &QUANTIFIED {
-        assert_eq!(rt;
+        shows(
+            &rt,
             below(alloc, interface, QUANTIFYING),
-            breaks(0, *start, *end, *rule)
+            breaks(0, *start, *end, *rule),
         );
     }
 }
@@ -139,14 +143,19 @@ fn a_level_that_reads_the_state(rt: HostRuntime) {
     let alloc = rt.alloc();
     let interface =
         b"INTERFACE i MODULES m; LATTICE LOW; LEVEL g() IS LUB(LOW, g()); SAMPLE s; END_INTERFACE";
-    assert_eq!(rt;
+    shows(
+        &rt,
         below(alloc, interface, LEVELLED),
-        breaks(0, 58, 61, Rule::LevelReadsState)
+        breaks(0, 58, 61, Rule::LevelReadsState),
     );
 }
 
 #[test]
 fn a_function_without_a_level(rt: HostRuntime) {
     let alloc = rt.alloc();
-    assert_eq!(rt; alone(alloc, OPERATION), breaks(1, 24, 25, Rule::NoLevel));
+    shows(
+        &rt,
+        alone(alloc, OPERATION),
+        breaks(1, 24, 25, Rule::NoLevel),
+    );
 }

@@ -1,6 +1,6 @@
 //! Limits of whole specifications, at their number and one above.
 
-use crate::texts::{Counts, alone, below, exceeds};
+use crate::texts::{Counts, alone, below, exceeds, shows};
 use sp_text::{Memory, Quantity, SpecFault, push_number};
 use std::alloc::Global;
 
@@ -52,10 +52,11 @@ fn asserting(alloc: Global, count: u16) -> Result<Vec<u8>, Memory> {
 #[test]
 fn assertions_up_to_64(rt: HostRuntime) -> Result<(), Memory> {
     let alloc = rt.alloc();
-    assert_eq!(rt; alone(alloc, &asserting(alloc, 64)?), specified(64, 0));
-    assert_eq!(rt;
+    shows(&rt, alone(alloc, &asserting(alloc, 64)?), specified(64, 0));
+    shows(
+        &rt,
         alone(alloc, &asserting(alloc, 65)?),
-        exceeds(1, 404, 408, Quantity::Assertions)
+        exceeds(1, 404, 408, Quantity::Assertions),
     );
     Ok(())
 }
@@ -74,13 +75,15 @@ fn operating(alloc: Global, count: u16) -> Result<Vec<u8>, Memory> {
 fn functions_up_to_512(rt: HostRuntime) -> Result<(), Memory> {
     let alloc = rt.alloc();
     let interface = levelled(alloc, 512)?;
-    assert_eq!(rt;
+    shows(
+        &rt,
         below(alloc, &interface, &operating(alloc, 512)?),
-        specified(0, 512)
+        specified(0, 512),
     );
-    assert_eq!(rt;
+    shows(
+        &rt,
         below(alloc, &interface, &operating(alloc, 513)?),
-        exceeds(1, 10666, 10670, Quantity::Functions)
+        exceeds(1, 10666, 10670, Quantity::Functions),
     );
     Ok(())
 }
@@ -110,13 +113,15 @@ fn derivations(alloc: Global, count: u16) -> Result<Vec<u8>, Memory> {
 fn derivations_up_to_16_deep(rt: HostRuntime) -> Result<(), Memory> {
     let alloc = rt.alloc();
     let interface = levelled(alloc, 17)?;
-    assert_eq!(rt;
+    shows(
+        &rt,
         below(alloc, &levelled(alloc, 16)?, &derivations(alloc, 16)?),
-        specified(0, 16)
+        specified(0, 16),
     );
-    assert_eq!(rt;
+    shows(
+        &rt,
         below(alloc, &interface, &derivations(alloc, 17)?),
-        exceeds(1, 716, 719, Quantity::DerivationDepth)
+        exceeds(1, 716, 719, Quantity::DerivationDepth),
     );
     Ok(())
 }
@@ -150,13 +155,15 @@ fn excepting(alloc: Global, last: &[u8]) -> Result<Vec<u8>, Memory> {
 fn nodes_of_a_function_up_to_8192(rt: HostRuntime) -> Result<(), Memory> {
     let alloc = rt.alloc();
     let interface = levelled(alloc, 1)?;
-    assert_eq!(rt;
+    shows(
+        &rt,
         below(alloc, &interface, &excepting(alloc, b"y: e8();")?),
-        specified(0, 1)
+        specified(0, 1),
     );
-    assert_eq!(rt;
+    shows(
+        &rt,
         below(alloc, &interface, &excepting(alloc, b"y: NOT e8();")?),
-        exceeds(1, 315, 317, Quantity::FunctionNodes)
+        exceeds(1, 315, 317, Quantity::FunctionNodes),
     );
     Ok(())
 }

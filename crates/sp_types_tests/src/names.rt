@@ -1,6 +1,6 @@
 //! Names: which are declared, known and of the kind that is asked, and how many arguments stand behind them.
 
-use crate::texts::{Broken, NOTHING, alone, beside, breaks, breaks_beside, elaborated};
+use crate::texts::{Broken, NOTHING, alone, beside, breaks, breaks_beside, elaborated, shows};
 use sp_text::Rule;
 
 // Modules `m` that break rules of names and headers.
@@ -36,7 +36,7 @@ const HEADERS: [Broken; 5] = [
 fn names_of_headers(rt: HostRuntime) {
     let alloc = rt.alloc();
     for (module, start, end, rule) in &HEADERS {
-        assert_eq!(rt; alone(alloc, module), breaks(1, *start, *end, *rule));
+        shows(&rt, alone(alloc, module), breaks(1, *start, *end, *rule));
     }
 }
 
@@ -72,9 +72,10 @@ const FUNCTIONS: [Broken; 4] = [
 fn names_in_functions(rt: HostRuntime) {
     let alloc = rt.alloc();
     for (functions, start, end, rule) in &FUNCTIONS {
-        assert_eq!(rt;
+        shows(
+            &rt,
             beside(alloc, functions),
-            breaks_beside(*start, *end, *rule)
+            breaks_beside(*start, *end, *rule),
         );
     }
 }
@@ -83,8 +84,9 @@ fn names_in_functions(rt: HostRuntime) {
 fn a_module_that_is_named_twice(rt: HostRuntime) {
     let alloc = rt.alloc();
     let interface = b"INTERFACE i MODULES m, m; LATTICE LOW; SAMPLE s; END_INTERFACE";
-    assert_eq!(rt;
+    shows(
+        &rt,
         elaborated(alloc, interface, &[NOTHING, NOTHING]),
-        breaks(0, 23, 24, Rule::TwiceDeclared)
+        breaks(0, 23, 24, Rule::TwiceDeclared),
     );
 }

@@ -8,6 +8,7 @@ use sp_text::{Limit, Malformed, Memory, Quantity, Rule, Span, SpecFault, TextFau
 use sp_tree::{InterfaceTree, Module};
 use sp_types::elaborate;
 use std::alloc::Global;
+use std::process::Abort;
 
 /// A text that breaks a rule from one place to the other.
 pub type Broken = (&'static [u8], u32, u32, Rule);
@@ -70,22 +71,40 @@ fn counts_of(spec: &Spec) -> Counts {
     }
 }
 
+// Each function holds one value that has to be dropped: the proof of several in one grows with their product.
+
 fn judged(
+    alloc: Global,
+    interface: &InterfaceTree,
+    modules: &[Module],
+) -> Result<Counts, SpecFault> {
+    match elaborate(alloc, interface, modules) {
+        Ok((spec, _)) => Ok(counts_of(&spec)),
+        Err(fault) => Err(fault),
+    }
+}
+
+fn judged_below(
+    alloc: Global,
+    interface: &[u8],
+    modules: &[Module],
+) -> Result<Result<Counts, SpecFault>, TextFault> {
+    let interface = read_interface(alloc, interface)?;
+    Ok(judged(alloc, &interface, modules))
+}
+
+fn read_and_judged(
     alloc: Global,
     interface: &[u8],
     modules: &[&[u8]],
 ) -> Result<Result<Counts, SpecFault>, TextFault> {
-    let interface = read_interface(alloc, interface)?;
     let modules = read_modules(alloc, modules)?;
-    match elaborate(alloc, &interface, modules.as_slice()) {
-        Ok((spec, _)) => Ok(Ok(counts_of(&spec))),
-        Err(fault) => Ok(Err(fault)),
-    }
+    judged_below(alloc, interface, modules.as_slice())
 }
 
 /// How much the specification of an interface and its modules has, or what they break.
 pub fn elaborated(alloc: Global, interface: &[u8], modules: &[&[u8]]) -> Result<Counts, SpecFault> {
-    match judged(alloc, interface, modules) {
+    match read_and_judged(alloc, interface, modules) {
         Ok(answer) => answer,
         Err(fault) => Err(SpecFault {
             file: NO_FILE,
@@ -149,4 +168,9 @@ pub fn breaks_beside(start: u32, end: u32, rule: Rule) -> Result<Counts, SpecFau
 /// The limit is exceeded there.
 pub fn exceeds_beside(start: u32, end: u32, quantity: Quantity) -> Result<Counts, SpecFault> {
     exceeds(1, behind(start), behind(end), quantity)
+}
+
+/// Asserts what a specification has, or what it breaks. The assertion stands here alone, since each costs the proof of a test much.
+pub fn shows(rt: &impl Abort, found: Result<Counts, SpecFault>, want: Result<Counts, SpecFault>) {
+    assert_eq!(rt; found, want);
 }

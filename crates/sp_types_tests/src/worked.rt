@@ -1,6 +1,6 @@
 //! Worked texts that break nothing.
 
-use crate::texts::{Counts, below};
+use crate::texts::{Counts, below, shows};
 use sp_text::SpecFault;
 
 /// A machine with files, of users with clearances.
@@ -72,12 +72,24 @@ fn specified(types: usize, parameters: usize, functions: usize) -> Result<Counts
 #[test]
 fn files_with_and_without_the_exception_of_write(rt: HostRuntime) {
     let alloc = rt.alloc();
-    assert_eq!(rt; below(alloc, FILES_INTERFACE, FILES), specified(2, 2, 3));
-    assert_eq!(rt; below(alloc, LEAKY_INTERFACE, LEAKY), specified(2, 2, 3));
+    shows(
+        &rt,
+        below(alloc, FILES_INTERFACE, FILES),
+        specified(2, 2, 3),
+    );
+    shows(
+        &rt,
+        below(alloc, LEAKY_INTERFACE, LEAKY),
+        specified(2, 2, 3),
+    );
 }
 
 #[test]
 fn new_values_in_targets(rt: HostRuntime) {
     let alloc = rt.alloc();
-    assert_eq!(rt; below(alloc, STACKS_INTERFACE, STACKS), specified(1, 0, 4));
+    shows(
+        &rt,
+        below(alloc, STACKS_INTERFACE, STACKS),
+        specified(1, 0, 4),
+    );
 }

@@ -1,9 +1,11 @@
 //! Purged lists, and runs compared with their purged runs.
 
-use crate::texts::{Ended, Texts, compared, kept};
+use crate::texts::{Ended, Kept, Texts, compared, kept};
 use sp_animator::Compared;
 use sp_core::Answer;
+use sp_text::TextFault;
 use sp_values::Value;
+use std::process::Abort;
 
 const INTERFACE: &[u8] = b"INTERFACE i MODULES m; LATTICE LOW, HIGH; ORDER LOW < HIGH;
 LEVEL data(f) IS cls(f); LEVEL read(u, f) IS clr(u); LEVEL write(u, f, x) IS clr(u);
@@ -60,6 +62,15 @@ OFUN op(); EFFECTS 'g() = 1; IF p() THEN 'g() = 2; ELSE END_IF; END_MODULE",
     script: b"clear(); op();",
 };
 
+// One place for the assertion, which costs the proof of a test much.
+fn shows(rt: &impl Abort, found: Result<Ended, TextFault>, want: Result<Ended, TextFault>) {
+    assert_eq!(rt; found, want);
+}
+
+fn stays(rt: &impl Abort, found: Result<Kept, TextFault>, want: Result<Kept, TextFault>) {
+    assert_eq!(rt; found, want);
+}
+
 #[test]
 fn the_first_kept_answer_that_differs_is_told(rt: HostRuntime) {
     let differs = Compared::Differs {
@@ -67,33 +78,37 @@ fn the_first_kept_answer_that_differs_is_told(rt: HostRuntime) {
         whole: Answer::Value(Value::Int(7)),
         purged: Answer::Value(Value::Int(0)),
     };
-    assert_eq!(rt; compared(rt.alloc(), &LEAKY, 0), Ok(Ended::Both(differs)));
+    shows(
+        &rt,
+        compared(rt.alloc(), &LEAKY, 0),
+        Ok(Ended::Both(differs)),
+    );
 }
 
 #[test]
 fn kept_answers_are_counted(rt: HostRuntime) {
     let alloc = rt.alloc();
     let one = Ended::Both(Compared::Same { kept: 1 });
-    assert_eq!(rt; compared(alloc, &FILES, 0), Ok(one));
+    shows(&rt, compared(alloc, &FILES, 0), Ok(one));
     let both = Ended::Both(Compared::Same { kept: 2 });
-    assert_eq!(rt; compared(alloc, &LEAKY, 1), Ok(both));
+    shows(&rt, compared(alloc, &LEAKY, 1), Ok(both));
 }
 
 #[test]
 fn incomparable_levels_are_purged(rt: HostRuntime) {
     let alloc = rt.alloc();
-    assert_eq!(rt; kept(alloc, &DIAMOND, 0), Ok((0, None)));
-    assert_eq!(rt; kept(alloc, &DIAMOND, 1), Ok((2, Some(0))));
-    assert_eq!(rt; kept(alloc, &DIAMOND, 3), Ok((4, Some(1))));
+    stays(&rt, kept(alloc, &DIAMOND, 0), Ok((0, None)));
+    stays(&rt, kept(alloc, &DIAMOND, 1), Ok((2, Some(0))));
+    stays(&rt, kept(alloc, &DIAMOND, 3), Ok((4, Some(1))));
     let two = Ended::Both(Compared::Same { kept: 2 });
-    assert_eq!(rt; compared(alloc, &DIAMOND, 1), Ok(two));
+    shows(&rt, compared(alloc, &DIAMOND, 1), Ok(two));
 }
 
 #[test]
 fn an_invocation_may_be_refused_in_the_purged_run_alone(rt: HostRuntime) {
     let alloc = rt.alloc();
     let refused = Ended::Conflict(true, 1, Value::Int(1), Value::Int(2));
-    assert_eq!(rt; compared(alloc, &REFUSED, 0), Ok(refused));
+    shows(&rt, compared(alloc, &REFUSED, 0), Ok(refused));
     let both = Ended::Both(Compared::Same { kept: 2 });
-    assert_eq!(rt; compared(alloc, &REFUSED, 1), Ok(both));
+    shows(&rt, compared(alloc, &REFUSED, 1), Ok(both));
 }

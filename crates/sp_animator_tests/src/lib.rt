@@ -10,4 +10,4 @@ mod runs;
 mod steps;
 mod texts;
 
-pub use texts::{Ended, Ran, Texts, compared, kept, run};
+pub use texts::{Ended, Kept, Ran, Texts, compared, kept, run};

@@ -4,6 +4,7 @@ use crate::texts::{Ran, Texts, run};
 use sp_core::Answer;
 use sp_text::TextFault;
 use sp_values::Value;
+use std::process::Abort;
 
 const INTERFACE: &[u8] =
     b"INTERFACE m MODULES m; LATTICE LOW; LEVEL data(f) IS LOW; LEVEL fill(x) IS LOW;
@@ -31,16 +32,25 @@ fn found(answer: Answer, entries: u64) -> Result<(Ran, u64), TextFault> {
     Ok((Ran::Answers(Some(answer)), entries))
 }
 
+// One place for the assertion, which costs the proof of a test much.
+fn shows(
+    rt: &impl Abort,
+    found: Result<(Ran, u64), TextFault>,
+    want: Result<(Ran, u64), TextFault>,
+) {
+    assert_eq!(rt; found, want);
+}
+
 #[test]
 fn each_member_has_its_change(rt: HostRuntime) {
     let alloc = rt.alloc();
-    assert_eq!(rt; run(alloc, &FILES, 0), found(Answer::Done, 3));
+    shows(&rt, run(alloc, &FILES, 0), found(Answer::Done, 3));
     let value = Answer::Value(Value::Int(5));
-    assert_eq!(rt; run(alloc, &FILES, 1), found(value, 3));
-    assert_eq!(rt; run(alloc, &FILES, 2), found(value, 3));
+    shows(&rt, run(alloc, &FILES, 1), found(value, 3));
+    shows(&rt, run(alloc, &FILES, 2), found(value, 3));
 }
 
 #[test]
 fn an_empty_population_has_no_change(rt: HostRuntime) {
-    assert_eq!(rt; run(rt.alloc(), &NO_FILES, 0), found(Answer::Done, 0));
+    shows(&rt, run(rt.alloc(), &NO_FILES, 0), found(Answer::Done, 0));
 }

@@ -4,6 +4,7 @@ use crate::texts::{Ran, Texts, answer, run};
 use sp_core::Answer;
 use sp_text::TextFault;
 use sp_values::Value;
+use std::process::Abort;
 
 const INSTANCE: &[u8] = b"INSTANCE s END_INSTANCE";
 
@@ -79,19 +80,24 @@ fn value(value: Value) -> Result<Ran, TextFault> {
     Ok(Ran::Answers(Some(Answer::Value(value))))
 }
 
+// One place for the assertion, which costs the proof of a test much.
+fn shows(rt: &impl Abort, found: Result<Ran, TextFault>, want: Result<Ran, TextFault>) {
+    assert_eq!(rt; found, want);
+}
+
 #[test]
 fn the_first_true_exception_is_answered(rt: HostRuntime) {
     let alloc = rt.alloc();
-    assert_eq!(rt; answer(alloc, &EXCEPTIONS, 0), exception(0));
-    assert_eq!(rt; answer(alloc, &EXCEPTIONS, 1), exception(1));
+    shows(&rt, answer(alloc, &EXCEPTIONS, 0), exception(0));
+    shows(&rt, answer(alloc, &EXCEPTIONS, 1), exception(1));
 }
 
 #[test]
 fn effects_read_the_old_state(rt: HostRuntime) {
     let alloc = rt.alloc();
-    assert_eq!(rt; answer(alloc, &SWAP, 0), done());
-    assert_eq!(rt; answer(alloc, &SWAP, 1), value(Value::Int(2)));
-    assert_eq!(rt; answer(alloc, &SWAP, 2), value(Value::Int(1)));
+    shows(&rt, answer(alloc, &SWAP, 0), done());
+    shows(&rt, answer(alloc, &SWAP, 1), value(Value::Int(2)));
+    shows(&rt, answer(alloc, &SWAP, 2), value(Value::Int(1)));
 }
 
 #[test]
@@ -103,23 +109,23 @@ fn a_conflict_names_its_place_and_both_values_and_changes_nothing(rt: HostRuntim
 #[test]
 fn a_sum_out_of_range_is_unknown(rt: HostRuntime) {
     let alloc = rt.alloc();
-    assert_eq!(rt; answer(alloc, &UNKNOWN, 0), value(Value::Unknown));
-    assert_eq!(rt; answer(alloc, &UNKNOWN, 1), value(Value::Truth(false)));
-    assert_eq!(rt; answer(alloc, &UNKNOWN, 2), value(Value::Truth(true)));
+    shows(&rt, answer(alloc, &UNKNOWN, 0), value(Value::Unknown));
+    shows(&rt, answer(alloc, &UNKNOWN, 1), value(Value::Truth(false)));
+    shows(&rt, answer(alloc, &UNKNOWN, 2), value(Value::Truth(true)));
 }
 
 #[test]
 fn the_result_of_the_branch_taken_is_answered(rt: HostRuntime) {
     let alloc = rt.alloc();
-    assert_eq!(rt; answer(alloc, &BRANCHES, 0), value(Value::Int(3)));
-    assert_eq!(rt; answer(alloc, &BRANCHES, 1), value(Value::Int(4)));
+    shows(&rt, answer(alloc, &BRANCHES, 0), value(Value::Int(3)));
+    shows(&rt, answer(alloc, &BRANCHES, 1), value(Value::Int(4)));
 }
 
 #[test]
 fn a_target_reads_the_new_state(rt: HostRuntime) {
     let alloc = rt.alloc();
-    assert_eq!(rt; answer(alloc, &STACK, 1), done());
-    assert_eq!(rt; answer(alloc, &STACK, 2), value(Value::Int(6)));
-    assert_eq!(rt; answer(alloc, &STACK, 3), value(Value::Int(5)));
-    assert_eq!(rt; answer(alloc, &STACK, 4), exception(0));
+    shows(&rt, answer(alloc, &STACK, 1), done());
+    shows(&rt, answer(alloc, &STACK, 2), value(Value::Int(6)));
+    shows(&rt, answer(alloc, &STACK, 3), value(Value::Int(5)));
+    shows(&rt, answer(alloc, &STACK, 4), exception(0));
 }

@@ -1,4 +1,4 @@
-use crate::given::{Files, outcome_of};
+use crate::given::{Files, ends, has_status, outcome_of};
 use crate::rows::{FILES, GUARDED, LEAKY, REFUSED, SMALL};
 use std::test::Fail;
 
@@ -121,9 +121,12 @@ fn certificates_are_judged(rt: HostRuntime) -> Result<(), Fail> {
     ];
     for (certificates, code, printed) in rows {
         let files = texts(GUARDED, certificates);
-        let (status, out) = outcome_of(alloc, &VERIFY, files, Vec::new(alloc), 400)?;
-        assert_eq!(rt; status.code(), code);
-        assert_eq!(rt; out.bytes(), printed);
+        ends(
+            &rt,
+            &outcome_of(alloc, &VERIFY, files, Vec::new(alloc), 400)?,
+            code,
+            printed,
+        );
     }
     Ok(())
 }
@@ -138,9 +141,12 @@ fn certificates_are_migrated(rt: HostRuntime) -> Result<(), Fail> {
     ];
     for (certificates, code, printed) in rows {
         let files = texts(GUARDED, certificates);
-        let (status, out) = outcome_of(alloc, &MIGRATE, files, Vec::new(alloc), 400)?;
-        assert_eq!(rt; status.code(), code);
-        assert_eq!(rt; out.bytes(), printed);
+        ends(
+            &rt,
+            &outcome_of(alloc, &MIGRATE, files, Vec::new(alloc), 400)?,
+            code,
+            printed,
+        );
     }
     Ok(())
 }
@@ -149,12 +155,15 @@ fn certificates_are_migrated(rt: HostRuntime) -> Result<(), Fail> {
 fn what_is_proved_is_verified(rt: HostRuntime) -> Result<(), Fail> {
     let alloc = rt.alloc();
     let words = ["prove", "files.iface"];
-    let (status, out) = outcome_of(alloc, &words, texts(GUARDED, b""), Vec::new(alloc), 1000)?;
-    assert_eq!(rt; status.code(), 0);
-    let files = texts(GUARDED, out.bytes());
-    let (status, told) = outcome_of(alloc, &VERIFY, files, Vec::new(alloc), 400)?;
-    assert_eq!(rt; status.code(), 0);
-    assert_eq!(rt; told.bytes(), CHECKED);
+    let proved = outcome_of(alloc, &words, texts(GUARDED, b""), Vec::new(alloc), 1000)?;
+    has_status(&rt, &proved, 0);
+    let files = texts(GUARDED, proved.bytes());
+    ends(
+        &rt,
+        &outcome_of(alloc, &VERIFY, files, Vec::new(alloc), 400)?,
+        0,
+        CHECKED,
+    );
     Ok(())
 }
 
@@ -162,8 +171,11 @@ fn what_is_proved_is_verified(rt: HostRuntime) -> Result<(), Fail> {
 fn what_is_open_is_told(rt: HostRuntime) -> Result<(), Fail> {
     let alloc = rt.alloc();
     let words = ["prove", "files.iface"];
-    let (status, out) = outcome_of(alloc, &words, texts(LEAKY, b""), Vec::new(alloc), 400)?;
-    assert_eq!(rt; status.code(), 1);
-    assert_eq!(rt; out.bytes(), REFUSED);
+    ends(
+        &rt,
+        &outcome_of(alloc, &words, texts(LEAKY, b""), Vec::new(alloc), 400)?,
+        1,
+        REFUSED,
+    );
     Ok(())
 }

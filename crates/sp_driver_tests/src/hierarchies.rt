@@ -1,4 +1,4 @@
-use crate::given::outcome_over;
+use crate::given::{ends, outcome_over};
 use crate::rows::{FILES, GUARDED, SMALL};
 use std::test::Fail;
 
@@ -117,9 +117,12 @@ fn hierarchies_are_decided(rt: HostRuntime) -> Result<(), Fail> {
     for (cells, name, mapping, code, printed) in rows {
         let words = ["hierarchy", "sys.hier"];
         let files = texts(cells, name, mapping);
-        let (status, out) = outcome_over(alloc, &words, &files, Vec::new(alloc), 500)?;
-        assert_eq!(rt; status.code(), code);
-        assert_eq!(rt; out.bytes(), printed);
+        ends(
+            &rt,
+            &outcome_over(alloc, &words, &files, Vec::new(alloc), 500)?,
+            code,
+            printed,
+        );
     }
     Ok(())
 }

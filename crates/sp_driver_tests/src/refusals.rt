@@ -1,4 +1,4 @@
-use crate::given::{Files, outcome_of};
+use crate::given::{Files, ends, outcome_of};
 use std::test::Fail;
 
 const CLASHING: &[u8] = b"INTERFACE m MODULES m; LATTICE LOW;
@@ -55,9 +55,12 @@ fn conflicts_are_told(rt: HostRuntime) -> Result<(), Fail> {
     ];
     for (words, printed) in rows {
         let files = texts(CLASHING, CLASH, b"INSTANCE s END_INSTANCE");
-        let (status, out) = outcome_of(alloc, words, files, Vec::new(alloc), 200)?;
-        assert_eq!(rt; status.code(), 8);
-        assert_eq!(rt; out.bytes(), printed);
+        ends(
+            &rt,
+            &outcome_of(alloc, words, files, Vec::new(alloc), 200)?,
+            8,
+            printed,
+        );
     }
     Ok(())
 }
@@ -67,11 +70,11 @@ fn limits_of_formulas_are_told(rt: HostRuntime) -> Result<(), Fail> {
     let alloc = rt.alloc();
     let words = ["formulas", "m.iface"];
     let files = texts(WIDE, INSTANTIATED, b"INSTANCE s END_INSTANCE");
-    let (status, out) = outcome_of(alloc, &words, files, Vec::new(alloc), 200)?;
-    assert_eq!(rt; status.code(), 7);
-    assert_eq!(rt;
-        out.bytes(),
-        b"LIMIT assertion instances 64 AT formula 1\n".as_slice()
+    ends(
+        &rt,
+        &outcome_of(alloc, &words, files, Vec::new(alloc), 200)?,
+        7,
+        b"LIMIT assertion instances 64 AT formula 1\n",
     );
     Ok(())
 }
@@ -107,9 +110,12 @@ fn systems_are_judged(rt: HostRuntime) -> Result<(), Fail> {
         ),
     ];
     for (files, code, printed) in rows {
-        let (status, out) = outcome_of(alloc, &words, files, Vec::new(alloc), 200)?;
-        assert_eq!(rt; status.code(), code);
-        assert_eq!(rt; out.bytes(), printed);
+        ends(
+            &rt,
+            &outcome_of(alloc, &words, files, Vec::new(alloc), 200)?,
+            code,
+            printed,
+        );
     }
     Ok(())
 }

@@ -1,4 +1,4 @@
-use crate::given::{Files, outcome_of};
+use crate::given::{Files, ends, outcome_of};
 use std::test::Fail;
 
 pub const FILES: &[u8] = b"INTERFACE files MODULES files;
@@ -89,9 +89,12 @@ fn answers_are_printed(rt: HostRuntime) -> Result<(), Fail> {
         ),
     ];
     for (module, printed) in rows {
-        let (status, out) = outcome_of(alloc, &RUN, texts(module, LEAK), Vec::new(alloc), 200)?;
-        assert_eq!(rt; status.code(), 0);
-        assert_eq!(rt; out.bytes(), printed);
+        ends(
+            &rt,
+            &outcome_of(alloc, &RUN, texts(module, LEAK), Vec::new(alloc), 200)?,
+            0,
+            printed,
+        );
     }
     Ok(())
 }
@@ -100,9 +103,12 @@ fn answers_are_printed(rt: HostRuntime) -> Result<(), Fail> {
 fn formulas_are_listed(rt: HostRuntime) -> Result<(), Fail> {
     let alloc = rt.alloc();
     let words = ["formulas", "files.iface"];
-    let (status, out) = outcome_of(alloc, &words, texts(GUARDED, b""), Vec::new(alloc), 400)?;
-    assert_eq!(rt; status.code(), 0);
-    assert_eq!(rt; out.bytes(), LISTED);
+    ends(
+        &rt,
+        &outcome_of(alloc, &words, texts(GUARDED, b""), Vec::new(alloc), 400)?,
+        0,
+        LISTED,
+    );
     Ok(())
 }
 
@@ -112,9 +118,12 @@ fn formulas_are_decided(rt: HostRuntime) -> Result<(), Fail> {
     let rows: [(&[u8], u8, &[u8]); 2] = [(GUARDED, 0, ACCEPTED), (LEAKY, 1, REFUSED)];
     for (module, code, printed) in rows {
         let words = ["check", "files.iface"];
-        let (status, out) = outcome_of(alloc, &words, texts(module, b""), Vec::new(alloc), 400)?;
-        assert_eq!(rt; status.code(), code);
-        assert_eq!(rt; out.bytes(), printed);
+        ends(
+            &rt,
+            &outcome_of(alloc, &words, texts(module, b""), Vec::new(alloc), 400)?,
+            code,
+            printed,
+        );
     }
     Ok(())
 }
@@ -135,9 +144,12 @@ fn runs_are_compared(rt: HostRuntime) -> Result<(), Fail> {
     ];
     for (module, level, code, printed) in rows {
         let words = ["compare", "files.iface", "small.inst", "s.script", level];
-        let (status, out) = outcome_of(alloc, &words, texts(module, LEAK), Vec::new(alloc), 200)?;
-        assert_eq!(rt; status.code(), code);
-        assert_eq!(rt; out.bytes(), printed);
+        ends(
+            &rt,
+            &outcome_of(alloc, &words, texts(module, LEAK), Vec::new(alloc), 200)?,
+            code,
+            printed,
+        );
     }
     Ok(())
 }
@@ -156,9 +168,12 @@ fn scripts_are_judged(rt: HostRuntime) -> Result<(), Fail> {
         (b"read(bob, memo)", b"MALFORMED s.script 15 15 Unexpected\n"),
     ];
     for (script, printed) in rows {
-        let (status, out) = outcome_of(alloc, &RUN, texts(GUARDED, script), Vec::new(alloc), 200)?;
-        assert_eq!(rt; status.code(), 2);
-        assert_eq!(rt; out.bytes(), printed);
+        ends(
+            &rt,
+            &outcome_of(alloc, &RUN, texts(GUARDED, script), Vec::new(alloc), 200)?,
+            2,
+            printed,
+        );
     }
     Ok(())
 }

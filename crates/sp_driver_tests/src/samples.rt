@@ -1,4 +1,4 @@
-use crate::given::outcome_over;
+use crate::given::{ends, outcome_over};
 use std::test::Fail;
 
 const SUMMARY: &[u8] = b"SAMPLE 1
@@ -20,9 +20,12 @@ fn a_sample_is_summed_up(rt: HostRuntime) -> Result<(), Fail> {
     for (size, code, printed) in rows {
         let words = ["sample", size];
         let failing = vec![in alloc; 0]?;
-        let (status, out) = outcome_over(alloc, &words, &[], failing, 100)?;
-        assert_eq!(rt; status.code(), code);
-        assert_eq!(rt; out.bytes(), printed);
+        ends(
+            &rt,
+            &outcome_over(alloc, &words, &[], failing, 100)?,
+            code,
+            printed,
+        );
     }
     Ok(())
 }

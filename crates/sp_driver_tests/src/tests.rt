@@ -1,6 +1,4 @@
-use crate::given::{Files, outcome_of};
-use sp_driver::Status;
-use sp_outside::MemorySink;
+use crate::given::{Files, Outcome, ends, has_status, outcome_of};
 use sp_text::{Memory, push_text};
 use std::alloc::Global;
 use std::test::Fail;
@@ -25,14 +23,14 @@ const INSTANCE: &[u8] = b"INSTANCE s END_INSTANCE";
 
 const SWAP: [&str; 4] = ["run", "m.iface", "s.inst", "s.script"];
 
-// The status of a run with this script, and what it wrote.
+// The outcome of a run with this script.
 fn outcome(
     alloc: Global,
     words: &[&str],
     script: &[u8],
     failing: Vec<u64>,
     room: usize,
-) -> Result<(Status, MemorySink), Memory> {
+) -> Result<Outcome, Memory> {
     let texts = [
         ("m.iface", INTERFACE),
         ("m.special", MODULE),
@@ -42,8 +40,8 @@ fn outcome(
     outcome_of(alloc, words, texts, failing, room)
 }
 
-// The status of a run whose module is this text, and what it wrote.
-fn module_outcome(alloc: Global, text: &[u8]) -> Result<(Status, MemorySink), Memory> {
+// The outcome of a run whose module is this text.
+fn module_outcome(alloc: Global, text: &[u8]) -> Result<Outcome, Memory> {
     let texts = [
         ("m.iface", INTERFACE),
         ("m.special", text),
@@ -72,9 +70,12 @@ fn a_script_is_answered(rt: HostRuntime) -> Result<(), Fail> {
         (b"", b"INTERFACE m\nEND 0\n"),
     ];
     for (script, printed) in rows {
-        let (status, out) = outcome(alloc, &SWAP, script, Vec::new(alloc), 100)?;
-        assert_eq!(rt; status.code(), 0);
-        assert_eq!(rt; out.bytes(), printed);
+        ends(
+            &rt,
+            &outcome(alloc, &SWAP, script, Vec::new(alloc), 100)?,
+            0,
+            printed,
+        );
     }
     Ok(())
 }
@@ -95,9 +96,12 @@ fn a_refusal_is_one_line(rt: HostRuntime) -> Result<(), Fail> {
         (&SWAP, b"c();", 2, b"MALFORMED s.script 0 1 UnknownName\n"),
     ];
     for (words, script, code, printed) in rows {
-        let (status, out) = outcome(alloc, words, script, Vec::new(alloc), 100)?;
-        assert_eq!(rt; status.code(), code);
-        assert_eq!(rt; out.bytes(), printed);
+        ends(
+            &rt,
+            &outcome(alloc, words, script, Vec::new(alloc), 100)?,
+            code,
+            printed,
+        );
     }
     Ok(())
 }
@@ -105,12 +109,18 @@ fn a_refusal_is_one_line(rt: HostRuntime) -> Result<(), Fail> {
 #[test]
 fn a_failed_read_or_write_is_answered(rt: HostRuntime) -> Result<(), Fail> {
     let alloc = rt.alloc();
-    let (unread, nothing) = outcome(alloc, &SWAP, b"", vec![in alloc; 1]?, 100)?;
-    assert_eq!(rt; unread.code(), 5);
-    assert_eq!(rt; nothing.bytes(), b"".as_slice());
-    let (unwritten, part) = outcome(alloc, &SWAP, b"", Vec::new(alloc), 10)?;
-    assert_eq!(rt; unwritten.code(), 6);
-    assert_eq!(rt; part.bytes(), b"INTERFACE ".as_slice());
+    ends(
+        &rt,
+        &outcome(alloc, &SWAP, b"", vec![in alloc; 1]?, 100)?,
+        5,
+        b"",
+    );
+    ends(
+        &rt,
+        &outcome(alloc, &SWAP, b"", Vec::new(alloc), 10)?,
+        6,
+        b"INTERFACE ",
+    );
     Ok(())
 }
 
@@ -129,9 +139,7 @@ fn a_fault_of_a_module_has_its_place(rt: HostRuntime) -> Result<(), Fail> {
         ),
     ];
     for (text, printed) in rows {
-        let (status, out) = module_outcome(alloc, text)?;
-        assert_eq!(rt; status.code(), 2);
-        assert_eq!(rt; out.bytes(), printed);
+        ends(&rt, &module_outcome(alloc, text)?, 2, printed);
     }
     Ok(())
 }
@@ -149,13 +157,16 @@ fn with_parentheses(alloc: Global, depth: u32) -> Result<Vec<u8>, Memory> {
 #[test]
 fn an_expression_is_at_most_64_high(rt: HostRuntime) -> Result<(), Fail> {
     let alloc = rt.alloc();
-    let (read, _) = module_outcome(alloc, &with_parentheses(alloc, 63)?)?;
-    assert_eq!(rt; read.code(), 2);
-    let (refused, limit) = module_outcome(alloc, &with_parentheses(alloc, 64)?)?;
-    assert_eq!(rt; refused.code(), 7);
-    assert_eq!(rt;
-        limit.bytes(),
-        b"LIMIT height 64 AT m.special 83\n".as_slice()
+    has_status(
+        &rt,
+        &module_outcome(alloc, &with_parentheses(alloc, 63)?)?,
+        2,
+    );
+    ends(
+        &rt,
+        &module_outcome(alloc, &with_parentheses(alloc, 64)?)?,
+        7,
+        b"LIMIT height 64 AT m.special 83\n",
     );
     Ok(())
 }
@@ -172,13 +183,16 @@ fn with_nested_effects(alloc: Global, depth: u32) -> Result<Vec<u8>, Memory> {
 #[test]
 fn effects_are_nested_at_most_16_deep(rt: HostRuntime) -> Result<(), Fail> {
     let alloc = rt.alloc();
-    let (read, _) = module_outcome(alloc, &with_nested_effects(alloc, 16)?)?;
-    assert_eq!(rt; read.code(), 2);
-    let (refused, limit) = module_outcome(alloc, &with_nested_effects(alloc, 17)?)?;
-    assert_eq!(rt; refused.code(), 7);
-    assert_eq!(rt;
-        limit.bytes(),
-        b"LIMIT effect nesting 16 AT m.special 245\n".as_slice()
+    has_status(
+        &rt,
+        &module_outcome(alloc, &with_nested_effects(alloc, 16)?)?,
+        2,
+    );
+    ends(
+        &rt,
+        &module_outcome(alloc, &with_nested_effects(alloc, 17)?)?,
+        7,
+        b"LIMIT effect nesting 16 AT m.special 245\n",
     );
     Ok(())
 }
@@ -188,11 +202,11 @@ fn a_text_has_at_most_200000_tokens(rt: HostRuntime) -> Result<(), Fail> {
     let alloc = rt.alloc();
     let mut text = b"MODULE m ".to_vec(alloc)?;
     repeat(alloc, &mut text, b";", 199_999)?;
-    let (status, out) = module_outcome(alloc, &text)?;
-    assert_eq!(rt; status.code(), 7);
-    assert_eq!(rt;
-        out.bytes(),
-        b"LIMIT tokens 200000 AT m.special 200007\n".as_slice()
+    ends(
+        &rt,
+        &module_outcome(alloc, &text)?,
+        7,
+        b"LIMIT tokens 200000 AT m.special 200007\n",
     );
     Ok(())
 }
@@ -207,8 +221,8 @@ fn big_texts(module: &[u8]) -> Files<'_> {
     ]
 }
 
-// The status of a run whose module is followed by so many blanks, and what it wrote.
-fn big_outcome(alloc: Global, blanks: u32) -> Result<(Status, MemorySink), Memory> {
+// The outcome of a run whose module is followed by so many blanks.
+fn big_outcome(alloc: Global, blanks: u32) -> Result<Outcome, Memory> {
     let mut text = BIG_MODULE.to_vec(alloc)?;
     repeat(alloc, &mut text, b" ", blanks)?;
     outcome_of(alloc, &SWAP, big_texts(&text), Vec::new(alloc), 100)
@@ -217,14 +231,17 @@ fn big_outcome(alloc: Global, blanks: u32) -> Result<(Status, MemorySink), Memor
 #[test]
 fn a_file_has_at_most_1048576_bytes(rt: HostRuntime) -> Result<(), Fail> {
     let alloc = rt.alloc();
-    let (read, answered) = big_outcome(alloc, 1_048_511)?;
-    assert_eq!(rt; read.code(), 0);
-    assert_eq!(rt; answered.bytes(), b"INTERFACE m\nEND 0\n".as_slice());
-    let (refused, limit) = big_outcome(alloc, 1_048_512)?;
-    assert_eq!(rt; refused.code(), 7);
-    assert_eq!(rt;
-        limit.bytes(),
-        b"LIMIT file bytes 1048576 AT big.special\n".as_slice()
+    ends(
+        &rt,
+        &big_outcome(alloc, 1_048_511)?,
+        0,
+        b"INTERFACE m\nEND 0\n",
+    );
+    ends(
+        &rt,
+        &big_outcome(alloc, 1_048_512)?,
+        7,
+        b"LIMIT file bytes 1048576 AT big.special\n",
     );
     Ok(())
 }

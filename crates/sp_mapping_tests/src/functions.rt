@@ -1,7 +1,9 @@
 //! Rows of functions.
 
-use crate::texts::{Broken, FUNCTIONS_AT, PARAMETERS, TYPES, breaks_behind, with_rows};
+use crate::texts::{Broken, FUNCTIONS_AT, PARAMETERS, TYPES, breaks_behind, shows, with_rows};
 use sp_text::Rule;
+use std::alloc::Global;
+use std::process::Abort;
 
 // A definition of the upper interface has no name here. Rows are of primitive V-functions alone.
 const HEADS: [Broken; 7] = [
@@ -34,24 +36,22 @@ const VALUES: [Broken; 7] = [
     (b"g(a) IS 'h(a, 0);", 8, 16, Rule::NewValueMisplaced),
 ];
 
-#[test]
-fn heads_of_rows(rt: HostRuntime) {
-    let alloc = rt.alloc();
-    for (rows, start, end, rule) in &HEADS {
-        assert_eq!(rt;
+fn each_is_broken(rt: &impl Abort, alloc: Global, texts: &[Broken]) {
+    for (rows, start, end, rule) in texts {
+        shows(
+            rt,
             with_rows(alloc, TYPES, PARAMETERS, rows),
-            breaks_behind(FUNCTIONS_AT, *start, *end, *rule)
+            breaks_behind(FUNCTIONS_AT, *start, *end, *rule),
         );
     }
 }
 
 #[test]
+fn heads_of_rows(rt: HostRuntime) {
+    each_is_broken(&rt, rt.alloc(), &HEADS);
+}
+
+#[test]
 fn expressions_of_functions(rt: HostRuntime) {
-    let alloc = rt.alloc();
-    for (rows, start, end, rule) in &VALUES {
-        assert_eq!(rt;
-            with_rows(alloc, TYPES, PARAMETERS, rows),
-            breaks_behind(FUNCTIONS_AT, *start, *end, *rule)
-        );
-    }
+    each_is_broken(&rt, rt.alloc(), &VALUES);
 }

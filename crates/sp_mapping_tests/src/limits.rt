@@ -1,8 +1,9 @@
 //! Limits of the expressions of a mapping, at their number and above.
 
-use crate::texts::{System, exceeds, judged, mapped};
-use sp_text::{Memory, Quantity};
+use crate::texts::{Judged, System, exceeds, judged, mapped, shows};
+use sp_text::{Memory, Quantity, TextFault};
 use std::alloc::Global;
+use std::process::Abort;
 
 // A text that keeps a limit, and one that exceeds it from one place to the other.
 type Limited = (&'static [u8], &'static [u8], u32, u32, Quantity);
@@ -60,16 +61,20 @@ END_MAPPING",
     ),
 ];
 
-#[test]
-fn limits_of_expressions(rt: HostRuntime) {
-    let alloc = rt.alloc();
-    for (within, beyond, start, end, quantity) in &VALUES {
-        assert_eq!(rt; judged(alloc, &UPPER, &LOWER, within), mapped(0, 1));
-        assert_eq!(rt;
+fn each_is_kept(rt: &impl Abort, alloc: Global, texts: &[Limited]) {
+    for (within, beyond, start, end, quantity) in texts {
+        shows(rt, judged(alloc, &UPPER, &LOWER, within), mapped(0, 1));
+        shows(
+            rt,
             judged(alloc, &UPPER, &LOWER, beyond),
-            exceeds(*start, *end, *quantity)
+            exceeds(*start, *end, *quantity),
         );
     }
+}
+
+#[test]
+fn limits_of_expressions(rt: HostRuntime) {
+    each_is_kept(&rt, rt.alloc(), &VALUES);
 }
 
 // Levels of a function, translated; they stand at the name of its row.
@@ -98,14 +103,7 @@ FUNCTIONS f() IS TRUE; END_MAPPING",
 
 #[test]
 fn limits_of_translated_levels(rt: HostRuntime) {
-    let alloc = rt.alloc();
-    for (within, beyond, start, end, quantity) in &LEVELS {
-        assert_eq!(rt; judged(alloc, &UPPER, &LOWER, within), mapped(0, 1));
-        assert_eq!(rt;
-            judged(alloc, &UPPER, &LOWER, beyond),
-            exceeds(*start, *end, *quantity)
-        );
-    }
+    each_is_kept(&rt, rt.alloc(), &LEVELS);
 }
 
 fn push_bounds(text: &mut Vec<u8>, count: u32, inner: &[u8]) -> Result<(), Memory> {
@@ -130,16 +128,20 @@ fn bounded(alloc: Global, count: u32) -> Result<Vec<u8>, Memory> {
     Ok(text)
 }
 
+fn judged_bounded(alloc: Global, count: u32) -> Judged {
+    match bounded(alloc, count) {
+        Ok(text) => judged(alloc, &UPPER, &LOWER, &text),
+        Err(_) => Ok(Err(TextFault::Memory)),
+    }
+}
+
 #[test]
-fn translated_levels_up_to_64_high(rt: HostRuntime) -> Result<(), Memory> {
+fn translated_levels_up_to_64_high(rt: HostRuntime) {
     let alloc = rt.alloc();
-    assert_eq!(rt;
-        judged(alloc, &UPPER, &LOWER, &bounded(alloc, 32)?),
-        mapped(0, 1)
+    shows(&rt, judged_bounded(alloc, 32), mapped(0, 1));
+    shows(
+        &rt,
+        judged_bounded(alloc, 33),
+        exceeds(707, 708, Quantity::Height),
     );
-    assert_eq!(rt;
-        judged(alloc, &UPPER, &LOWER, &bounded(alloc, 33)?),
-        exceeds(707, 708, Quantity::Height)
-    );
-    Ok(())
 }

@@ -1,7 +1,9 @@
 //! Rows of parameters.
 
-use crate::texts::{Broken, FUNCTIONS, PARAMETERS_AT, TYPES, breaks_behind, with_rows};
+use crate::texts::{Broken, FUNCTIONS, PARAMETERS_AT, TYPES, breaks_behind, shows, with_rows};
 use sp_text::Rule;
+use std::alloc::Global;
+use std::process::Abort;
 
 const HEADS: [Broken; 5] = [
     (b"p(a) IS q(a); p(a) IS q(a);", 14, 15, Rule::TwiceDeclared),
@@ -39,24 +41,22 @@ const VALUES: [Broken; 9] = [
     ),
 ];
 
-#[test]
-fn heads_of_rows(rt: HostRuntime) {
-    let alloc = rt.alloc();
-    for (rows, start, end, rule) in &HEADS {
-        assert_eq!(rt;
+fn each_is_broken(rt: &impl Abort, alloc: Global, texts: &[Broken]) {
+    for (rows, start, end, rule) in texts {
+        shows(
+            rt,
             with_rows(alloc, TYPES, rows, FUNCTIONS),
-            breaks_behind(PARAMETERS_AT, *start, *end, *rule)
+            breaks_behind(PARAMETERS_AT, *start, *end, *rule),
         );
     }
 }
 
 #[test]
+fn heads_of_rows(rt: HostRuntime) {
+    each_is_broken(&rt, rt.alloc(), &HEADS);
+}
+
+#[test]
 fn expressions_of_parameters(rt: HostRuntime) {
-    let alloc = rt.alloc();
-    for (rows, start, end, rule) in &VALUES {
-        assert_eq!(rt;
-            with_rows(alloc, TYPES, rows, FUNCTIONS),
-            breaks_behind(PARAMETERS_AT, *start, *end, *rule)
-        );
-    }
+    each_is_broken(&rt, rt.alloc(), &VALUES);
 }

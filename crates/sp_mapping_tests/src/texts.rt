@@ -14,6 +14,7 @@ use sp_text::{Limit, Malformed, Memory, Quantity, Rule, Span, SpecFault, TextFau
 use sp_tree::{InterfaceTree, MappingTree, Module};
 use sp_types::elaborate;
 use std::alloc::Global;
+use std::process::Abort;
 
 /// An interface of one module, and that module.
 #[derive(Clone, Copy)]
@@ -98,14 +99,26 @@ fn read_mapping(alloc: Global, text: &[u8]) -> Result<MappingTree, TextFault> {
     parse_mapping(alloc, tokens.as_slice(), text.len() as u32)
 }
 
-fn read_system(
-    alloc: Global,
-    system: &System<'_>,
-) -> Result<(InterfaceTree, Vec<Module>), TextFault> {
-    let interface = read_interface(alloc, system.interface)?;
+// Here and below a function holds one value with a destructor: with several the proof that it is safe costs many times
+// as much.
+fn one_module(alloc: Global, module: Module) -> Result<Vec<Module>, TextFault> {
     let mut modules = Vec::new(alloc);
-    modules.push(read_module(alloc, system.module)?)?;
-    Ok((interface, modules))
+    modules.push(module)?;
+    Ok(modules)
+}
+
+fn read_modules(alloc: Global, text: &[u8]) -> Result<Vec<Module>, TextFault> {
+    match read_module(alloc, text) {
+        Ok(module) => one_module(alloc, module),
+        Err(fault) => Err(fault),
+    }
+}
+
+fn unread(fault: TextFault) -> SpecFault {
+    SpecFault {
+        file: NO_FILE,
+        fault,
+    }
 }
 
 // The specification, with all its names.
@@ -120,17 +133,41 @@ fn elaborate_trees(
     elaborate(alloc, interface, modules)
 }
 
+fn elaborate_module(
+    alloc: Global,
+    interface: &InterfaceTree,
+    module: &[u8],
+) -> Result<(Spec, Scopes), SpecFault>
+    ensures { IfOk result (λ r. AreNamesOf r.0 r.1) }
+{
+    match read_modules(alloc, module) {
+        Ok(modules) => elaborate_trees(alloc, interface, modules.as_slice()),
+        Err(fault) => Err(unread(fault)),
+    }
+}
+
 /// The specification of the texts, with all its names.
 pub fn elaborate_system(alloc: Global, system: &System<'_>) -> Result<(Spec, Scopes), SpecFault>
     ensures { IfOk result (λ r. AreNamesOf r.0 r.1) }
 {
-    match read_system(alloc, system) {
-        Ok((interface, modules)) => elaborate_trees(alloc, &interface, modules.as_slice()),
-        Err(fault) => Err(SpecFault {
-            file: NO_FILE,
-            fault,
-        }),
+    match read_interface(alloc, system.interface) {
+        Ok(interface) => elaborate_module(alloc, &interface, system.module),
+        Err(fault) => Err(unread(fault)),
     }
+}
+
+// Nothing here has to be dropped: the clauses of what is called are dear beside a destructor.
+fn mapping_of(
+    alloc: Global,
+    upper: &Spec,
+    lower: &Spec,
+    scopes: &Scopes,
+    tree: &MappingTree,
+) -> Result<Mapping, TextFault>
+    requires { AreNamesOf lower.now scopes.now }
+    ensures { IfOk result (IsMappingTo lower.now) }
+{
+    elaborate_mapping(alloc, upper, lower, scopes, tree)
 }
 
 /// The mapping of the text.
@@ -145,13 +182,36 @@ pub fn elaborate_text(
     ensures { IfOk result (IsMappingTo lower.now) }
 {
     let tree = read_mapping(alloc, text)?;
-    elaborate_mapping(alloc, upper, lower, scopes, &tree)
+    mapping_of(alloc, upper, lower, scopes, &tree)
 }
 
 fn counts_of(mapping: &Mapping) -> Counts {
     Counts {
         types: mapping.types.items().len(),
         rows: mapping.functions.items().len(),
+    }
+}
+
+fn made_of(
+    alloc: Global,
+    upper: &(Spec, Scopes),
+    lower: &(Spec, Scopes),
+    text: &[u8],
+) -> Result<Result<Mapping, TextFault>, SpecFault>
+    requires { AreNamesOf lower.now.0 lower.now.1 }
+{
+    Ok(elaborate_text(alloc, &upper.0, &lower.0, &lower.1, text))
+}
+
+fn made_below(
+    alloc: Global,
+    upper: &(Spec, Scopes),
+    lower: &System<'_>,
+    text: &[u8],
+) -> Result<Result<Mapping, TextFault>, SpecFault> {
+    match elaborate_system(alloc, lower) {
+        Ok(lower) => made_of(alloc, upper, &lower, text),
+        Err(fault) => Err(fault),
     }
 }
 
@@ -162,17 +222,22 @@ pub fn made(
     lower: &System<'_>,
     text: &[u8],
 ) -> Result<Result<Mapping, TextFault>, SpecFault> {
-    let (upper, _) = elaborate_system(alloc, upper)?;
-    let (lower, scopes) = elaborate_system(alloc, lower)?;
-    Ok(elaborate_text(alloc, &upper, &lower, &scopes, text))
+    let upper = elaborate_system(alloc, upper)?;
+    made_below(alloc, &upper, lower, text)
 }
 
 /// What the mapping of a text has, or what it breaks.
 pub fn judged(alloc: Global, upper: &System<'_>, lower: &System<'_>, text: &[u8]) -> Judged {
-    match made(alloc, upper, lower, text)? {
-        Ok(mapping) => Ok(Ok(counts_of(&mapping))),
-        Err(fault) => Ok(Err(fault)),
+    match made(alloc, upper, lower, text) {
+        Ok(Ok(mapping)) => Ok(Ok(counts_of(&mapping))),
+        Ok(Err(fault)) => Ok(Err(fault)),
+        Err(fault) => Err(fault),
     }
+}
+
+/// The two are equal: the assertion is proved once, here.
+pub fn shows(rt: &impl Abort, found: Judged, want: Judged) {
+    assert_eq!(rt; found, want);
 }
 
 /// The text of a mapping `m` with these rows.

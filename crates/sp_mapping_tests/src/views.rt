@@ -26,6 +26,7 @@ use sp_text::{SpecFault, TextFault};
 use sp_tree::{InstanceTree, ScriptTree};
 use sp_values::{Args, Invocation, Place, Ty, Value};
 use std::alloc::Global;
+use std::process::Abort;
 
 /// A member of an upper type, by their numbers.
 type Member = (u16, u16);
@@ -64,17 +65,30 @@ fn script(
     make_script(alloc, spec, inst, &read_script(alloc, text)?)
 }
 
+fn after_list(
+    alloc: Global,
+    spec: &Spec,
+    inst: &Instance,
+    list: &[Invocation],
+) -> Result<State, TextFault>
+    requires given { IsInstanceOf spec.now inst.now }
+    requires list { All (IsInvocation (machine_of spec.now (filling_of inst.now))) list.now }
+    ensures { IfOk result (λ s. IsGiven spec.now inst.now s.entries) }
+{
+    let mut state = State::new(alloc);
+    match animate(alloc, spec, inst, &mut state, list) {
+        Ok(_) => Ok(state),
+        Err(_) => Err(TextFault::Memory),
+    }
+}
+
 // The state after the invocations of a script.
 fn after(alloc: Global, spec: &Spec, inst: &Instance, text: &[u8]) -> Result<State, TextFault>
     requires { IsInstanceOf spec.now inst.now }
     ensures { IfOk result (λ s. IsGiven spec.now inst.now s.entries) }
 {
     let list = script(alloc, spec, inst, text)?;
-    let mut state = State::new(alloc);
-    match animate(alloc, spec, inst, &mut state, list.as_slice()) {
-        Ok(_) => Ok(state),
-        Err(_) => Err(TextFault::Memory),
-    }
+    after_list(alloc, spec, inst, list.as_slice())
 }
 
 /// What is seen at a place.
@@ -172,6 +186,36 @@ struct Texts<'a> {
     script: &'a [u8],
 }
 
+fn seen_in(
+    alloc: Global,
+    lower: &Spec,
+    mapping: &Mapping,
+    inst: &Instance,
+    texts: &Texts<'_>,
+    member: Member,
+    level: u16,
+) -> Result<Seen, TextFault>
+    requires mapping { IsMappingTo lower.now mapping.now }
+    requires given { IsInstanceOf lower.now inst.now }
+{
+    let state = after(alloc, lower, inst, texts.script)?;
+    Ok(shown(lower, inst, &state, mapping, 0, member, level))
+}
+
+fn seen_by(
+    alloc: Global,
+    lower: &Spec,
+    mapping: &Mapping,
+    texts: &Texts<'_>,
+    member: Member,
+    level: u16,
+) -> Result<Seen, TextFault>
+    requires { IsMappingTo lower.now mapping.now }
+{
+    let inst = instance(alloc, lower, texts.instance)?;
+    seen_in(alloc, lower, mapping, &inst, texts, member, level)
+}
+
 fn seen_between(
     alloc: Global,
     upper: &Spec,
@@ -184,9 +228,34 @@ fn seen_between(
     requires { AreNamesOf lower.now scopes.now }
 {
     let mapping = elaborate_text(alloc, upper, lower, scopes, texts.mapping)?;
-    let inst = instance(alloc, lower, texts.instance)?;
-    let state = after(alloc, lower, &inst, texts.script)?;
-    Ok(shown(lower, &inst, &state, &mapping, 0, member, level))
+    seen_by(alloc, lower, &mapping, texts, member, level)
+}
+
+fn seen_of(
+    alloc: Global,
+    upper: &(Spec, Scopes),
+    lower: &(Spec, Scopes),
+    texts: &Texts<'_>,
+    member: Member,
+    level: u16,
+) -> Result<Seen, SpecFault>
+    requires { AreNamesOf lower.now.0 lower.now.1 }
+{
+    match seen_between(alloc, &upper.0, &lower.0, &lower.1, texts, member, level) {
+        Ok(seen) => Ok(seen),
+        Err(fault) => Err(SpecFault { file: 0, fault }),
+    }
+}
+
+fn seen_below(
+    alloc: Global,
+    upper: &(Spec, Scopes),
+    texts: &Texts<'_>,
+    member: Member,
+    level: u16,
+) -> Result<Seen, SpecFault> {
+    let lower = elaborate_system(alloc, &texts.lower)?;
+    seen_of(alloc, upper, &lower, texts, member, level)
 }
 
 // What is seen of the first row after the script.
@@ -196,12 +265,12 @@ fn seen_after(
     member: Member,
     level: u16,
 ) -> Result<Seen, SpecFault> {
-    let (upper, _) = elaborate_system(alloc, &texts.upper)?;
-    let (lower, scopes) = elaborate_system(alloc, &texts.lower)?;
-    match seen_between(alloc, &upper, &lower, &scopes, texts, member, level) {
-        Ok(seen) => Ok(seen),
-        Err(fault) => Err(SpecFault { file: 0, fault }),
-    }
+    let upper = elaborate_system(alloc, &texts.upper)?;
+    seen_below(alloc, &upper, texts, member, level)
+}
+
+fn shows(rt: &impl Abort, found: Result<Seen, SpecFault>, want: Result<Seen, SpecFault>) {
+    assert_eq!(rt; found, want);
 }
 
 const WORKED: Texts<'static> = Texts {
@@ -228,9 +297,17 @@ fn places_at_or_below_a_level_have_their_values(rt: HostRuntime) {
         (2, 1, Seen::Nowhere),
     ];
     for (file, level, wanted) in rows {
-        assert_eq!(rt; seen_after(alloc, &WORKED, (1, file), level), Ok(wanted));
+        shows(
+            &rt,
+            seen_after(alloc, &WORKED, (1, file), level),
+            Ok(wanted),
+        );
     }
-    assert_eq!(rt; seen_after(alloc, &WORKED, (0, 0), 1), Ok(Seen::Nowhere));
+    shows(
+        &rt,
+        seen_after(alloc, &WORKED, (0, 0), 1),
+        Ok(Seen::Nowhere),
+    );
 }
 
 // Lamps of the upper machine, which are those of another type below.
@@ -256,9 +333,10 @@ fn members_become_those_of_the_same_number(rt: HostRuntime) {
     let alloc = rt.alloc();
     let rows = [(0, false), (1, true)];
     for (color, lit) in rows {
-        assert_eq!(rt;
+        shows(
+            &rt,
             seen_after(alloc, &LAMPS, (0, color), 0),
-            Ok(Seen::Value(Value::Truth(lit)))
+            Ok(Seen::Value(Value::Truth(lit))),
         );
     }
 }

@@ -2,8 +2,10 @@
 
 use crate::texts::{LOWER, System, made};
 use sp_core::{Expr, MapRow, Mapping};
-use sp_text::SpecFault;
+use sp_text::{SpecFault, TextFault};
 use sp_values::{Ty, Value};
+use std::alloc::Global;
+use std::process::Abort;
 
 /// A machine with files, of users with clearances.
 pub const FILES: System<'static> = System {
@@ -80,13 +82,24 @@ fn is_down(mapping: &Mapping) -> bool {
         && row
 }
 
-#[test]
-fn a_file_is_the_first_cell_of_a_segment(rt: HostRuntime) -> Result<(), SpecFault> {
-    match made(rt.alloc(), &FILES, &STORE, DOWN)? {
-        Ok(mapping) => assert!(rt; is_down(&mapping)),
-        Err(fault) => assert_eq!(rt; Some(fault), None),
+// Whether the mapping is as wanted, or what its text breaks.
+type Told = Result<Result<bool, TextFault>, SpecFault>;
+
+fn holds(rt: &impl Abort, found: Told) {
+    assert_eq!(rt; found, Ok(Ok(true)));
+}
+
+fn told_down(alloc: Global) -> Told {
+    match made(alloc, &FILES, &STORE, DOWN) {
+        Ok(Ok(mapping)) => Ok(Ok(is_down(&mapping))),
+        Ok(Err(fault)) => Ok(Err(fault)),
+        Err(fault) => Err(fault),
     }
-    Ok(())
+}
+
+#[test]
+fn a_file_is_the_first_cell_of_a_segment(rt: HostRuntime) {
+    holds(&rt, told_down(rt.alloc()));
 }
 
 const TWO: System<'static> = System {
@@ -103,18 +116,21 @@ fn are_rows(rows: &[MapRow]) -> bool {
     }
 }
 
-#[test]
-fn types_stand_in_the_upper_order_and_rows_in_that_of_the_text(
-    rt: HostRuntime,
-) -> Result<(), SpecFault> {
+fn is_two(mapping: &Mapping) -> bool {
+    mapping.types.items() == [0u16, 1].as_slice() && are_rows(mapping.functions.items())
+}
+
+fn told_two(alloc: Global) -> Told {
     let text = b"MAPPING m FROM u TO l TYPES c IS e; t IS d; FUNCTIONS two() IS b; one() IS 1;
 END_MAPPING";
-    match made(rt.alloc(), &TWO, &LOWER, text)? {
-        Ok(mapping) => {
-            assert_eq!(rt; mapping.types.items(), [0u16, 1].as_slice());
-            assert!(rt; are_rows(mapping.functions.items()));
-        }
-        Err(fault) => assert_eq!(rt; Some(fault), None),
+    match made(alloc, &TWO, &LOWER, text) {
+        Ok(Ok(mapping)) => Ok(Ok(is_two(&mapping))),
+        Ok(Err(fault)) => Ok(Err(fault)),
+        Err(fault) => Err(fault),
     }
-    Ok(())
+}
+
+#[test]
+fn types_stand_in_the_upper_order_and_rows_in_that_of_the_text(rt: HostRuntime) {
+    holds(&rt, told_two(rt.alloc()));
 }
